@@ -7,18 +7,8 @@ use Rattle.command_frame.specs.Plan.{Document, Plan}
 use Rattle.command_frame.specs.Texts.{Texts}
 use Rattle.command_frame.specs.Answer.{Answer, absent_answer, document_answer, file_answer, plan_answer, whole_answer}
 use Rattle.command_frame.specs.Moment.{Moment}
-use Rattle.command_frame.specs.DocumentRead.{
-  Absent,
-  CannotOpen,
-  CannotRead,
-  DocumentEnd,
-  DocumentRead,
-  EndsWhere,
-  TooLong,
-  Unopened,
-  Wanting,
-  Whole,
-}
+use Rattle.command_frame.specs.DocumentRead.{Absent, CannotOpen, CannotRead, DocumentEnd, DocumentRead, EndsWhere}
+use Rattle.command_frame.specs.DocumentRead.{TooLong, Unopened, Wanting, Whole}
 use Rattle.command_frame.specs.Run.{GoesOnWith, Ran}
 use Rattle.command_frame.specs.RunFacts.{RunFacts}
 use Rattle.command_frame.proofs.StatusFactLemmas.{fault_facts, unreadable_facts, wanting_facts}

@@ -1,32 +1,6 @@
 -- The ends of reading a document, and what follows for a run.
-use Rattle.std.proofs.Common.{
-  ◌≡◌,
-  ◌≢◌,
-  ◌↔◌,
-  ◌<◌,
-  ◌≤◌,
-  ℕ,
-  nat_lt,
-  List,
-  [],
-  ◌∷◌,
-  length,
-  true,
-  false,
-  Option,
-  Some,
-  None,
-  Result,
-  Ok,
-  Err,
-  IsSome,
-  refl,
-  sym,
-  subst,
-  inl,
-  inr,
-  arith,
-}
+use Rattle.std.proofs.Common.{◌≡◌, ◌≢◌, ◌↔◌, ◌<◌, ◌≤◌, ℕ, nat_lt, List, [], ◌∷◌, length, true, false, Option, Some}
+use Rattle.std.proofs.Common.{None, Result, Ok, Err, IsSome, refl, sym, subst, inl, inr, arith}
 use Rattle.std.proofs.lemmas.Bool.{false_from_ne_true, lt-ltb, ltb-true}
 use Rattle.std.proofs.lemmas.Bool.Decides.{eqb_tells}
 use Rattle.hp_outside.specs.declared.store.OpenFault.{OpenFault}
@@ -44,20 +18,8 @@ use Rattle.command_frame.specs.WholeFault.{whole_fault}
 use Rattle.command_frame.specs.Halts.{halt_answer, status_code}
 use Rattle.command_frame.specs.Moment.{Moment, Opened}
 use Rattle.command_frame.specs.FileRead.{end_answer}
-use Rattle.command_frame.specs.DocumentRead.{
-  Absent,
-  CannotOpen,
-  CannotRead,
-  DocumentCalls,
-  DocumentEnd,
-  DocumentRead,
-  EndsWhere,
-  TooLong,
-  Unopened,
-  Wanting,
-  Whole,
-  document_end_answer,
-}
+use Rattle.command_frame.specs.DocumentRead.{Absent, CannotOpen, CannotRead, DocumentCalls, DocumentEnd, DocumentRead}
+use Rattle.command_frame.specs.DocumentRead.{EndsWhere, TooLong, Unopened, Wanting, Whole, document_end_answer}
 use Rattle.command_frame.specs.Outcome.{GivesWhole, IsUnread, end_of_document, end_of_open, end_of_whole}
 use Rattle.command_frame.specs.Plan.{Document, Plan}
 use Rattle.command_frame.specs.Run.{Ran, RanTo}

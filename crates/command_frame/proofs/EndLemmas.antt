@@ -1,40 +1,7 @@
 -- The ends of reading a file.
-use Rattle.std.proofs.Common.{
-  ◌≡◌,
-  ◌≢◌,
-  ◌↔◌,
-  inl,
-  inr,
-  subst,
-  ℕ,
-  List,
-  [],
-  ◌++◌,
-  length,
-  take,
-  min,
-  nat_le,
-  ◌<◌,
-  ◌≤◌,
-  take_all,
-  length-take,
-  take-take,
-  true,
-  false,
-  Option,
-  Some,
-  None,
-  Result,
-  Ok,
-  Err,
-  IsSome,
-  refl,
-  ap,
-  sym,
-  ◌∙◌,
-  append-nil,
-  arith,
-}
+use Rattle.std.proofs.Common.{◌≡◌, ◌≢◌, ◌↔◌, inl, inr, subst, ℕ, List, [], ◌++◌, length, take, min, nat_le, ◌<◌, ◌≤◌}
+use Rattle.std.proofs.Common.{take_all, length-take, take-take, true, false, Option, Some, None, Result, Ok, Err}
+use Rattle.std.proofs.Common.{IsSome, refl, ap, sym, ◌∙◌, append-nil, arith}
 use Rattle.std.proofs.lemmas.Bool.{leb-false, leb-true}
 use Rattle.std.proofs.lemmas.Bool.Decides.{eqb_tells}
 use Rattle.std.specs.Option.{option_or}
@@ -51,20 +18,8 @@ use Rattle.command_frame.specs.Told.{Told}
 use Rattle.command_frame.specs.Report.{Report, written}
 use Rattle.command_frame.specs.FirstFault.{Bounds, Refusal, end_refusal, first_fault, line_faults}
 use Rattle.command_frame.specs.Moment.{Moment, Opened}
-use Rattle.command_frame.specs.FileRead.{
-  Calls,
-  EndsAt,
-  EndsIn,
-  FileEnd,
-  FileRead,
-  GoodFront,
-  Passed,
-  PassedWhole,
-  StoppedBefore,
-  Wanting,
-  end_answer,
-  end_output,
-}
+use Rattle.command_frame.specs.FileRead.{Calls, EndsAt, EndsIn, FileEnd, FileRead, GoodFront, Passed, PassedWhole}
+use Rattle.command_frame.specs.FileRead.{StoppedBefore, Wanting, end_answer, end_output}
 use Rattle.command_frame.specs.LinesRun.{LinesRun, end_of}
 use Rattle.command_frame.specs.declared.halt.Halt.{Halt}
 use Rattle.command_frame.specs.Answer.{memory_answer}

@@ -1,23 +1,6 @@
 -- What it means for a file that its last line ended with its line feed.
-use Rattle.std.proofs.Common.{
-  ◌≡◌,
-  ℕ,
-  ◌+◌,
-  ◌≤◌,
-  Bool,
-  true,
-  false,
-  cond,
-  List,
-  [],
-  ◌∷◌,
-  length,
-  refl,
-  ap,
-  ap₂,
-  length-append,
-  arith,
-}
+use Rattle.std.proofs.Common.{◌≡◌, ℕ, ◌+◌, ◌≤◌, Bool, true, false, cond, List, [], ◌∷◌, length, refl, ap, ap₂}
+use Rattle.std.proofs.Common.{length-append, arith}
 use Rattle.std.proofs.lemmas.Bool.{eqb-true, le-leb, leb-true}
 use Rattle.std.proofs.lemmas.List.Sums.{sum_by-cons}
 use Rattle.hp_outside.specs.Lines.{is_line_feed, lines_of, put_first}

@@ -1,28 +1,6 @@
 -- From a run of the words and the delivery of its answer to what every run promises.
-use Rattle.std.proofs.Common.{
-  ◌≡◌,
-  ◌≢◌,
-  ℕ,
-  ◌+◌,
-  ◌≤◌,
-  true,
-  [],
-  ◌++◌,
-  length,
-  min,
-  take,
-  Option,
-  Some,
-  None,
-  refl,
-  ap,
-  sym,
-  subst,
-  ◌∙◌,
-  inl,
-  inr,
-  arith,
-}
+use Rattle.std.proofs.Common.{◌≡◌, ◌≢◌, ℕ, ◌+◌, ◌≤◌, true, [], ◌++◌, length, min, take, Option, Some, None, refl, ap}
+use Rattle.std.proofs.Common.{sym, subst, ◌∙◌, inl, inr, arith}
 use Rattle.std.proofs.lemmas.Bool.Decides.{eqb_tells}
 use Rattle.std.specs.Io.KnownBytes.{append_known}
 use Rattle.hp_outside.specs.Faults.{Rose}

@@ -1,44 +1,13 @@
 -- What was written is a front of what is to be written.
-use Rattle.std.proofs.Common.{
-  ◌≡◌,
-  ℕ,
-  ◌+◌,
-  ◌-◌,
-  ◌≤◌,
-  List,
-  [],
-  ◌∷◌,
-  ◌++◌,
-  length,
-  take,
-  Option,
-  Some,
-  None,
-  refl,
-  ap,
-  ap₂,
-  sym,
-  ◌∙◌,
-  append-nil,
-  append_assoc,
-  length-append,
-  arith,
-}
+use Rattle.std.proofs.Common.{◌≡◌, ℕ, ◌+◌, ◌-◌, ◌≤◌, List, [], ◌∷◌, ◌++◌, length, take, Option, Some, None, refl, ap}
+use Rattle.std.proofs.Common.{ap₂, sym, ◌∙◌, append-nil, append_assoc, length-append, arith}
 use Rattle.std.proofs.Math.Seq.{take-append-add, take-append_seam}
 use Rattle.std.specs.Option.{option_map, option_or}
 use Rattle.hp_outside.specs.Lines.{lines_of}
 use Rattle.command_frame.specs.Told.{Told}
 use Rattle.command_frame.specs.Report.{Report, gains_from, written}
-use Rattle.command_frame.specs.FirstFault.{
-  Bounds,
-  Refusal,
-  end_refusal,
-  file_fault,
-  first_fault,
-  is_ended,
-  line_fault,
-  line_faults,
-}
+use Rattle.command_frame.specs.FirstFault.{Bounds, Refusal, end_refusal, file_fault, first_fault, is_ended, line_fault}
+use Rattle.command_frame.specs.FirstFault.{line_faults}
 use Rattle.command_frame.specs.Texts.{Texts}
 use Rattle.command_frame.specs.Answer.{Answer, lines_answer}
 use Rattle.command_frame.specs.FileRead.{GoodFront}

@@ -1,33 +1,6 @@
 -- The first line of bytes, and the faults of a line's length.
-use Rattle.std.proofs.Common.{
-  ◌≡◌,
-  ℕ,
-  suc,
-  ◌+◌,
-  ◌<◌,
-  ◌≤◌,
-  ◌&&◌,
-  Bool,
-  true,
-  false,
-  nat_le,
-  nat_lt,
-  List,
-  [],
-  ◌∷◌,
-  length,
-  take,
-  drop,
-  Some,
-  None,
-  refl,
-  ap,
-  sym,
-  ◌∙◌,
-  length-take,
-  length-drop,
-  arith,
-}
+use Rattle.std.proofs.Common.{◌≡◌, ℕ, suc, ◌+◌, ◌<◌, ◌≤◌, ◌&&◌, Bool, true, false, nat_le, nat_lt, List, [], ◌∷◌}
+use Rattle.std.proofs.Common.{length, take, drop, Some, None, refl, ap, sym, ◌∙◌, length-take, length-drop, arith}
 use Rattle.std.proofs.lemmas.Bool.{false_from_ne_true, ltb-true, leb-true, lt-ltb, le-leb}
 use Rattle.std.specs.List.{position_or_len}
 use Rattle.command_frame.specs.FirstFault.{Bounds, input_too_long, length_fault, line_too_long}

@@ -1,28 +1,6 @@
 -- The facts of a run whose next file is read by lines.
-use Rattle.std.proofs.Common.{
-  ◌≡◌,
-  ◌≢◌,
-  ℕ,
-  ◌+◌,
-  List,
-  [],
-  ◌∷◌,
-  ◌++◌,
-  length,
-  min,
-  take,
-  take_all,
-  Option,
-  Some,
-  None,
-  refl,
-  ap,
-  sym,
-  subst,
-  ◌∙◌,
-  append-nil,
-  arith,
-}
+use Rattle.std.proofs.Common.{◌≡◌, ◌≢◌, ℕ, ◌+◌, List, [], ◌∷◌, ◌++◌, length, min, take, take_all, Option, Some, None}
+use Rattle.std.proofs.Common.{refl, ap, sym, subst, ◌∙◌, append-nil, arith}
 use Rattle.hp_outside.specs.Folder.{Folder, file_of}
 use Rattle.hp_outside.specs.Lines.{lines_of}
 use Rattle.command_frame.specs.Told.{Told}
@@ -30,30 +8,11 @@ use Rattle.command_frame.specs.Report.{Report, gains_from, written}
 use Rattle.command_frame.specs.FirstFault.{Bounds}
 use Rattle.command_frame.specs.Plan.{Lines, Plan}
 use Rattle.command_frame.specs.Texts.{Texts}
-use Rattle.command_frame.specs.Answer.{
-  Answer,
-  absent_answer,
-  after,
-  line_answer,
-  lines_answer,
-  named_answer,
-  plan_answer,
-}
+use Rattle.command_frame.specs.Answer.{Answer, absent_answer, after, line_answer, lines_answer, named_answer}
+use Rattle.command_frame.specs.Answer.{plan_answer}
 use Rattle.command_frame.specs.Moment.{Moment}
-use Rattle.command_frame.specs.FileRead.{
-  Absent,
-  CannotOpen,
-  CannotRead,
-  EndsIn,
-  FileEnd,
-  FileRead,
-  GoodFront,
-  Passed,
-  Refused,
-  Unopened,
-  Unwritten,
-  Wanting,
-}
+use Rattle.command_frame.specs.FileRead.{Absent, CannotOpen, CannotRead, EndsIn, FileEnd, FileRead, GoodFront, Passed}
+use Rattle.command_frame.specs.FileRead.{Refused, Unopened, Unwritten, Wanting}
 use Rattle.command_frame.specs.Run.{GoesOn, Ran}
 use Rattle.command_frame.specs.RunFacts.{RunFacts}
 use Rattle.command_frame.specs.Silent.{IsSilent}

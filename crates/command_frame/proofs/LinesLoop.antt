@@ -1,37 +1,7 @@
 -- What holds while the lines of a file are taken.
-use Rattle.std.proofs.Common.{
-  ◌≡◌,
-  ◌≢◌,
-  ℕ,
-  Bool,
-  true,
-  false,
-  if◌then◌else◌,
-  nat_le,
-  ◌+◌,
-  ◌-◌,
-  ◌<◌,
-  ◌≤◌,
-  List,
-  [],
-  ◌∷◌,
-  ◌++◌,
-  length,
-  Option,
-  Some,
-  None,
-  Result,
-  Ok,
-  Err,
-  refl,
-  ap,
-  sym,
-  subst,
-  ◌∙◌,
-  append-nil,
-  append_assoc,
-  arith,
-}
+use Rattle.std.proofs.Common.{◌≡◌, ◌≢◌, ℕ, Bool, true, false, if◌then◌else◌, nat_le, ◌+◌, ◌-◌, ◌<◌, ◌≤◌, List, [], ◌∷◌}
+use Rattle.std.proofs.Common.{◌++◌, length, Option, Some, None, Result, Ok, Err, refl, ap, sym, subst, ◌∙◌, append-nil}
+use Rattle.std.proofs.Common.{append_assoc, arith}
 use Rattle.std.proofs.lemmas.Bool.{le-leb, lt-leb}
 use Rattle.std.proofs.lemmas.List.{length_push}
 use Rattle.std.specs.Option.{option_map, option_or}
@@ -45,38 +15,14 @@ use Rattle.hp_outside.specs.NextLine.{GivesLine, IsInputTooLong, IsLineTooLong, 
 use Rattle.hp_outside.specs.Taken.{WhereTold}
 use Rattle.command_frame.specs.Told.{Told}
 use Rattle.command_frame.specs.Report.{Report, written}
-use Rattle.command_frame.specs.FirstFault.{
-  Bounds,
-  Refusal,
-  bytes_of_lines,
-  end_refusal,
-  first_fault,
-  input_too_long,
-  is_ended,
-  length_fault,
-  line_fault,
-  line_faults,
-  line_too_long,
-}
+use Rattle.command_frame.specs.FirstFault.{Bounds, Refusal, bytes_of_lines, end_refusal, first_fault, input_too_long}
+use Rattle.command_frame.specs.FirstFault.{is_ended, length_fault, line_fault, line_faults, line_too_long}
 use Rattle.command_frame.specs.LinesRun.{Gained}
 use Rattle.command_frame.specs.FileRead.{GoodFront, PassedWhole, RefusedAt, StoppedBefore}
-use Rattle.command_frame.proofs.FaultLemmas.{
-  bytes_of_lines-push,
-  fault_found,
-  fault_passes,
-  good_push,
-  line_has_content_fault,
-  line_has_length_fault,
-  line_is_good,
-}
-use Rattle.command_frame.proofs.LineLemmas.{
-  after_line_length,
-  first_line_reaches,
-  input_is_too_long,
-  length_is_good,
-  line_is_too_long,
-  lines_of_first,
-}
+use Rattle.command_frame.proofs.FaultLemmas.{bytes_of_lines-push, fault_found, fault_passes, good_push}
+use Rattle.command_frame.proofs.FaultLemmas.{line_has_content_fault, line_has_length_fault, line_is_good}
+use Rattle.command_frame.proofs.LineLemmas.{after_line_length, first_line_reaches, input_is_too_long, length_is_good}
+use Rattle.command_frame.proofs.LineLemmas.{line_is_too_long, lines_of_first}
 use Rattle.command_frame.proofs.OutputLemmas.{gained_more, take_front}
 
 -- a fault at a line

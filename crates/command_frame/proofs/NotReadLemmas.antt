@@ -1,25 +1,6 @@
 -- A run that ended because a file is absent, or couldn't be opened or read: what its message says.
-use Rattle.std.proofs.Common.{
-  ◌≡◌,
-  ◌≢◌,
-  ℕ,
-  suc,
-  ◌+◌,
-  true,
-  false,
-  List,
-  ◌∷◌,
-  Option,
-  Some,
-  None,
-  IsSome,
-  ap,
-  subst,
-  ◌∙◌,
-  inl,
-  inr,
-  arith,
-}
+use Rattle.std.proofs.Common.{◌≡◌, ◌≢◌, ℕ, suc, ◌+◌, true, false, List, ◌∷◌, Option, Some, None, IsSome, ap, subst, ◌∙◌}
+use Rattle.std.proofs.Common.{inl, inr, arith}
 use Rattle.hp_outside.specs.Faults.{Rose}
 use Rattle.hp_outside.specs.FaultTexts.{line_text, open_text}
 use Rattle.hp_outside.specs.declared.span.LineFault.TheVariants as reading

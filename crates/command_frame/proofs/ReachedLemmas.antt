@@ -1,38 +1,7 @@
 -- No fault was reached where a call of the store failed.
-use Rattle.std.proofs.Common.{
-  ◌≡◌,
-  ◌≢◌,
-  ◌⊎◌,
-  ℕ,
-  zero,
-  suc,
-  ◌+◌,
-  ◌-◌,
-  ◌<◌,
-  ◌≤◌,
-  Bool,
-  true,
-  false,
-  List,
-  [],
-  ◌∷◌,
-  ◌++◌,
-  length,
-  take,
-  Option,
-  Some,
-  None,
-  refl,
-  ap,
-  ap₂,
-  sym,
-  subst,
-  ◌∙◌,
-  inl,
-  inr,
-  length-append,
-  arith,
-}
+use Rattle.std.proofs.Common.{◌≡◌, ◌≢◌, ◌⊎◌, ℕ, zero, suc, ◌+◌, ◌-◌, ◌<◌, ◌≤◌, Bool, true, false, List, [], ◌∷◌, ◌++◌}
+use Rattle.std.proofs.Common.{length, take, Option, Some, None, refl, ap, ap₂, sym, subst, ◌∙◌, inl, inr, length-append}
+use Rattle.std.proofs.Common.{arith}
 use Rattle.std.proofs.Math.Seq.{take-append-add}
 use Rattle.std.proofs.lemmas.List.Sums.{sum_by-append, sum_by-cons}
 use Rattle.std.specs.List.{position_or_len}
@@ -54,16 +23,8 @@ use Rattle.command_frame.specs.FileRead.{EndsIn, FileEnd, FileRead, GoodFront, S
 use Rattle.command_frame.specs.DocumentRead as document
 use Rattle.command_frame.specs.DocumentRead.{DocumentEnd, DocumentRead, EndsWhere}
 use Rattle.command_frame.specs.Run.{GoesOn, GoesOnWith, Ran}
-use Rattle.command_frame.specs.Reached.{
-  DocumentReached,
-  FileReached,
-  IsReached,
-  PlanReached,
-  RefusalReached,
-  ShowsRefusal,
-  WholeReached,
-  taken_of,
-}
+use Rattle.command_frame.specs.Reached.{DocumentReached, FileReached, IsReached, PlanReached, RefusalReached}
+use Rattle.command_frame.specs.Reached.{ShowsRefusal, WholeReached, taken_of}
 use Rattle.command_frame.specs.Task.{Task}
 use Rattle.command_frame.specs.WordsRan.{WordsRan}
 use Rattle.command_frame.proofs.EndsLemmas.{TaskEnded, told_by}

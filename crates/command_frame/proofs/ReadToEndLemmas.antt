@@ -1,23 +1,6 @@
 -- At status 0 each file was read to its end.
-use Rattle.std.proofs.Common.{
-  ◌≡◌,
-  ℕ,
-  List,
-  [],
-  ◌∷◌,
-  Option,
-  Some,
-  None,
-  IsSome,
-  refl,
-  ap,
-  sym,
-  subst,
-  ◌∙◌,
-  inl,
-  inr,
-  arith,
-}
+use Rattle.std.proofs.Common.{◌≡◌, ℕ, List, [], ◌∷◌, Option, Some, None, IsSome, refl, ap, sym, subst, ◌∙◌, inl, inr}
+use Rattle.std.proofs.Common.{arith}
 use Rattle.hp_outside.specs.Folder.{Folder, file_of}
 use Rattle.command_frame.specs.Report.{Report}
 use Rattle.command_frame.specs.FirstFault.{Bounds}

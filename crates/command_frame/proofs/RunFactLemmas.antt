@@ -1,24 +1,6 @@
 -- The facts of a run, along its plan.
-use Rattle.std.proofs.Common.{
-  ◌≡◌,
-  ◌⊎◌,
-  ℕ,
-  List,
-  [],
-  ◌∷◌,
-  length,
-  take,
-  take_all,
-  Option,
-  refl,
-  ap,
-  sym,
-  ◌∙◌,
-  inl,
-  inr,
-  append-nil,
-  arith,
-}
+use Rattle.std.proofs.Common.{◌≡◌, ◌⊎◌, ℕ, List, [], ◌∷◌, length, take, take_all, Option, refl, ap, sym, ◌∙◌, inl, inr}
+use Rattle.std.proofs.Common.{append-nil, arith}
 use Rattle.hp_outside.specs.Folder.{Folder}
 use Rattle.command_frame.specs.Report.{Refuses, Verdict, Writes}
 use Rattle.command_frame.specs.FirstFault.{Bounds}

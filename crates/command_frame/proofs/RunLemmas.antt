@@ -8,21 +8,8 @@ use Rattle.command_frame.specs.Outcome.{IsStop}
 use Rattle.command_frame.specs.Plan.{Plan, Lines}
 use Rattle.command_frame.specs.Report.{Report, written}
 use Rattle.command_frame.specs.Moment.{Moment}
-use Rattle.command_frame.specs.FileRead.{
-  Absent,
-  CannotOpen,
-  CannotRead,
-  EndsIn,
-  FileEnd,
-  FileRead,
-  Passed,
-  Refused,
-  Unopened,
-  Unwritten,
-  Wanting,
-  end_answer,
-  end_output,
-}
+use Rattle.command_frame.specs.FileRead.{Absent, CannotOpen, CannotRead, EndsIn, FileEnd, FileRead, Passed, Refused}
+use Rattle.command_frame.specs.FileRead.{Unopened, Unwritten, Wanting, end_answer, end_output}
 use Rattle.command_frame.specs.Run.{Ran, RanTo}
 use Rattle.command_frame.specs.Texts.{Texts}
 use Rattle.command_frame.proofs.OutputLemmas.{append_further, append_nothing}

@@ -1,24 +1,6 @@
 -- The facts of a run that came to one status or another.
-use Rattle.std.proofs.Common.{
-  ◌≡◌,
-  ◌⊎◌,
-  ℕ,
-  ◌+◌,
-  ◌≤◌,
-  List,
-  [],
-  length,
-  take,
-  take_all,
-  Option,
-  refl,
-  ap,
-  sym,
-  ◌∙◌,
-  inl,
-  inr,
-  arith,
-}
+use Rattle.std.proofs.Common.{◌≡◌, ◌⊎◌, ℕ, ◌+◌, ◌≤◌, List, [], length, take, take_all, Option, refl, ap, sym, ◌∙◌, inl}
+use Rattle.std.proofs.Common.{inr, arith}
 use Rattle.hp_outside.specs.Faults.{Rose}
 use Rattle.hp_outside.specs.Folder.{Folder}
 use Rattle.hp_outside.specs.Taken.{WhereTold}

@@ -1,24 +1,6 @@
 -- Writing a text while it is made.
-use Rattle.std.proofs.Common.{
-  ◌≡◌,
-  ℕ,
-  List,
-  [],
-  ◌++◌,
-  length,
-  take,
-  drop,
-  Option,
-  refl,
-  ap,
-  ap₂,
-  sym,
-  ◌∙◌,
-  inl,
-  inr,
-  append-nil,
-  append_assoc,
-}
+use Rattle.std.proofs.Common.{◌≡◌, ℕ, List, [], ◌++◌, length, take, drop, Option, refl, ap, ap₂, sym, ◌∙◌, inl, inr}
+use Rattle.std.proofs.Common.{append-nil, append_assoc}
 use Rattle.std.proofs.lemmas.List.{take-append-drop}
 use Rattle.std.proofs.Math.Seq.{take-append_seam}
 use Rattle.std.specs.Io.KnownBytes.{append_known}

@@ -9,15 +9,8 @@ use Rattle.command_frame.specs.FirstFault.{Bounds, input_too_long}
 use Rattle.command_frame.specs.WholeFault.{whole_fault}
 use Rattle.command_frame.specs.Moment.{Moment, Opened}
 use Rattle.command_frame.specs.Texts.{Texts}
-use Rattle.command_frame.specs.Answer.{
-  Answer,
-  absent_answer,
-  closed_answer,
-  file_answer,
-  memory_answer,
-  refused,
-  unread_answer,
-}
+use Rattle.command_frame.specs.Answer.{Answer, absent_answer, closed_answer, file_answer, memory_answer, refused}
+use Rattle.command_frame.specs.Answer.{unread_answer}
 
 pub data DocumentEnd : Type 0 where
   -- memory was wanting before the file was opened

@@ -11,16 +11,8 @@ use Rattle.command_frame.specs.Report.{Report, written}
 use Rattle.command_frame.specs.FirstFault.{Bounds, bytes_of_lines, file_fault, first_fault, line_faults}
 use Rattle.command_frame.specs.Moment.{Moment, Opened}
 use Rattle.command_frame.specs.Texts.{Texts}
-use Rattle.command_frame.specs.Answer.{
-  Answer,
-  absent_answer,
-  closed_answer,
-  line_answer,
-  memory_answer,
-  refused,
-  unread_answer,
-  write_answer,
-}
+use Rattle.command_frame.specs.Answer.{Answer, absent_answer, closed_answer, line_answer, memory_answer, refused}
+use Rattle.command_frame.specs.Answer.{unread_answer, write_answer}
 
 -- how the reading of a file by lines ended, with the lines that were taken
 pub data FileEnd : Type 0 where

@@ -1,24 +1,8 @@
 -- The first fault of a file of lines: that of a line's length comes before that of what it says,
 -- and that of the end stands at the line after the last. The end's depends on whether the last line
 -- ended with its line feed: each line fits into the file's bytes with one.
-use Rattle.std.specs.Prelude.{
-  ℕ,
-  Bool,
-  ◌+◌,
-  ◌&&◌,
-  nat_le,
-  nat_lt,
-  if◌then◌else◌,
-  List,
-  [],
-  ◌∷◌,
-  ◌++◌,
-  length,
-  sum_by,
-  Option,
-  Some,
-  None,
-}
+use Rattle.std.specs.Prelude.{ℕ, Bool, ◌+◌, ◌&&◌, nat_le, nat_lt, if◌then◌else◌, List, [], ◌∷◌, ◌++◌, length, sum_by}
+use Rattle.std.specs.Prelude.{Option, Some, None}
 use Rattle.std.specs.Option.{option_map, option_or}
 use Rattle.hp_outside.specs.FaultTexts.{line_text}
 use Rattle.hp_outside.specs.Lines.{lines_of}

@@ -2,23 +2,8 @@
 -- opened, or where the bytes taken of its file show it: the refused line and its line feed are
 -- among them, or one byte more than the line or the file may have. The end of a file, a last line
 -- without a line feed and a file that is read whole have faults that only the end shows.
-use Rattle.std.specs.Prelude.{
-  ◌≡◌,
-  ◌⊎◌,
-  ◌+◌,
-  ◌-◌,
-  ◌<◌,
-  ◌≤◌,
-  ℕ,
-  if◌then◌else◌,
-  List,
-  length,
-  take,
-  Option,
-  Some,
-  None,
-  unwrap_or,
-}
+use Rattle.std.specs.Prelude.{◌≡◌, ◌⊎◌, ◌+◌, ◌-◌, ◌<◌, ◌≤◌, ℕ, if◌then◌else◌, List, length, take, Option, Some, None}
+use Rattle.std.specs.Prelude.{unwrap_or}
 use Rattle.hp_outside.specs.Folder.{Folder, file_of}
 use Rattle.hp_outside.specs.Lines.{lines_of}
 use Rattle.command_frame.specs.Told.{Told}

@@ -1,24 +1,7 @@
 -- What follows from that for every plan: the defined answer unless something failed, which file a
 -- message names, what stands on the output.
-use Rattle.std.specs.Prelude.{
-  ◌≡◌,
-  ◌≢◌,
-  ◌≤◌,
-  ◌+◌,
-  ◌⊎◌,
-  ℕ,
-  true,
-  false,
-  List,
-  [],
-  length,
-  slice_get,
-  take,
-  Option,
-  Some,
-  None,
-  IsSome,
-}
+use Rattle.std.specs.Prelude.{◌≡◌, ◌≢◌, ◌≤◌, ◌+◌, ◌⊎◌, ℕ, true, false, List, [], length, slice_get, take, Option, Some}
+use Rattle.std.specs.Prelude.{None, IsSome}
 use Rattle.hp_outside.specs.Faults.{Rose}
 use Rattle.hp_outside.specs.FaultTexts.{line_text, open_text}
 use Rattle.hp_outside.specs.declared.span.LineFault.TheVariants as reading

@@ -1,51 +1,11 @@
 -- Every table stands for a simple command whose arguments have no rule on one another.
-use Rattle.std.proofs.Common.{
-  ◌≡◌,
-  ℕ,
-  ◌+◌,
-  Bool,
-  true,
-  false,
-  not,
-  ◌&&◌,
-  ◌||◌,
-  List,
-  [],
-  ◌∷◌,
-  ◌++◌,
-  map,
-  refl,
-  ap,
-  ap₂,
-  ◌∙◌,
-  count_by,
-  cond,
-  is_some,
-  if◌then◌else◌,
-  sym,
-  inl,
-  inr,
-  Some,
-  None,
-  arith,
-}
+use Rattle.std.proofs.Common.{◌≡◌, ℕ, ◌+◌, Bool, true, false, not, ◌&&◌, ◌||◌, List, [], ◌∷◌, ◌++◌, map, refl, ap, ap₂}
+use Rattle.std.proofs.Common.{◌∙◌, count_by, cond, is_some, if◌then◌else◌, sym, inl, inr, Some, None, arith}
 use Rattle.std.proofs.lemmas.Simd.{map-map}
 use Rattle.std.proofs.lemmas.List.Sums.{sum_by-cons}
 use Rattle.std.specs.List.{list_all, list_any}
-use Rattle.clap.specs.Words.{
-  App,
-  HasKind,
-  IsAmong,
-  Kinds,
-  Row,
-  Rule,
-  Text,
-  fault_of,
-  is_simple,
-  is_simple_and_free,
-  kind_of,
-  matches_of,
-}
+use Rattle.clap.specs.Words.{App, HasKind, IsAmong, Kinds, Row, Rule, Text, fault_of, is_simple, is_simple_and_free}
+use Rattle.clap.specs.Words.{kind_of, matches_of}
 use Rattle.clap.specs.Simple.{built, filled, filled_from, is_in_order}
 use Rattle.clap.specs.Faults.{is_free_app}
 use Rattle.clap.specs.Walk.{is_early_multiple}
@@ -54,16 +14,8 @@ use Rattle.clap.specs.declared.error.ErrorKind.{ErrorKind}
 use Rattle.clap.specs.declared.error.ErrorKind.TheVariants.{OutOfMemory}
 use Rattle.command_words.specs.WordsTaken.{fault_for, matches_for, rows_without, words_taken}
 use Rattle.command_words.specs.declared.table.WordTable.{WordTable}
-use Rattle.command_words.specs.TableApp.{
-  Table,
-  app_for,
-  app_with,
-  files_rule,
-  flag_rule,
-  option_rule,
-  rules_for,
-  table_of,
-}
+use Rattle.command_words.specs.TableApp.{Table, app_for, app_with, files_rule, flag_rule, option_rule, rules_for}
+use Rattle.command_words.specs.TableApp.{table_of}
 
 -- rules that are named alike: what holds of each of them needs to be looked at of the rest alone
 all_pass : (p : Rule → Bool) (rule : Text → Rule) → ((name : Text) → p (rule name) ≡ true)

@@ -1,5 +1,6 @@
 -- Which words a table takes, and what they give.
-use Rattle.std.specs.Prelude.{◌≡◌, Bool, false, List, [], ◌∷◌, Option, Some, None, IfOk, Result, String, codes, map, option_map, string_bytes}
+use Rattle.std.specs.Prelude.{◌≡◌, Bool, false, List, [], ◌∷◌, Option, Some, None, IfOk, Result, String, codes, map}
+use Rattle.std.specs.Prelude.{option_map, string_bytes}
 use Rattle.std.specs.Borrow.{Bor}
 use Rattle.std.specs.Str.{bytes_eq}
 use Rattle.std.specs.Option.{option_map_or}

@@ -5,7 +5,8 @@ use Rattle.hp_outside.specs.Folder.{Folder}
 use Rattle.command_frame.specs.Answer.{Answer}
 use Rattle.command_frame.specs.FirstFault.{Bounds}
 use Rattle.command_frame.specs.Outside.{Gives, Outside, StoreRose}
-use Rattle.command_frame.proofs.Laws.{TaskEnded, append_nothing, defined_by, front_by, gives_as, judged_by, run_ends, silent_by, task_quiet, to_end_by, told_by, unreached_by, wrote}
+use Rattle.command_frame.proofs.Laws.{TaskEnded, append_nothing, defined_by, front_by, gives_as, judged_by, run_ends}
+use Rattle.command_frame.proofs.Laws.{silent_by, task_quiet, to_end_by, told_by, unreached_by, wrote}
 use Rattle.commands.specs.Answer.{answer}
 use Rattle.heapsuite_words.specs.Asked.{asked, knows_first}
 use Rattle.commands.specs.Tasks.{task_asked}

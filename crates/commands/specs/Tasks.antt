@@ -4,7 +4,8 @@ use Rattle.std.specs.Option.{option_map}
 use Rattle.command_frame.specs.Plan.{Ends, Plan}
 use Rattle.command_frame.specs.Report.{Writes}
 use Rattle.command_frame.specs.Task.{Task, task_names}
-use Rattle.heapsuite_words.specs.Asked.{Asked, Convert, Dhat, DhatView, Flame, Gen, Help, Interpret, Massif, Page, Print, Summary, asked}
+use Rattle.heapsuite_words.specs.Asked.{Asked, Convert, Dhat, DhatView, Flame, Gen, Help, Interpret, Massif, Page}
+use Rattle.heapsuite_words.specs.Asked.{Print, Summary, asked}
 use Rattle.trace_profiles.specs.DhatReport.{dhat_plan}
 use Rattle.trace_profiles.specs.MassifReport.{massif_plan}
 use Rattle.trace_reading.specs.SuppressionsReport.{names_behind}

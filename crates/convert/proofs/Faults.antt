@@ -1,5 +1,6 @@
 -- Lemmas on what stands against a conversion.
-use Rattle.std.proofs.Common.{◌≡◌, ℕ, ◌^◌, ◌<◌, ◌≤◌, ◌||◌, Bool, true, false, List, Option, None, Some, refl, sym, ap, ◌∙◌}
+use Rattle.std.proofs.Common.{◌≡◌, ℕ, ◌^◌, ◌<◌, ◌≤◌, ◌||◌, Bool, true, false, List, Option, None, Some, refl, sym, ap}
+use Rattle.std.proofs.Common.{◌∙◌}
 use Rattle.std.specs.Prelude.{nat_lt, sum}
 use Rattle.std.proofs.lemmas.Bool.{cond-false, cond-true, le-ltb, lt-ltb}
 use Rattle.dhat_json.specs.declared.figure.FigureKey.{FigureKey}
@@ -12,7 +13,8 @@ use Rattle.massif_file.specs.declared.profile.Snap.{Snap}
 use Rattle.massif_file.specs.TreeLine.{TreeLine}
 use Rattle.convert.specs.declared.fault.ConvertFault.TheVariants.{NoFigures, NoTree, TooLarge}
 use Rattle.convert.specs.Chosen.{chosen}
-use Rattle.convert.specs.ConvertFault.{converted_fault, fault_if, folded_fault, folded_massif_fault, is_too_large, items_fault, snap_fault}
+use Rattle.convert.specs.ConvertFault.{converted_fault, fault_if, folded_fault, folded_massif_fault, is_too_large}
+use Rattle.convert.specs.ConvertFault.{items_fault, snap_fault}
 use Rattle.convert.specs.Levels.{left_in}
 use Rattle.convert.specs.TreeItems.{tree_items}
 use Rattle.convert.proofs.Walks.{tree-sum}

@@ -1,5 +1,6 @@
 -- Lemmas on the texts of folded lines, as they are appended.
-use Rattle.std.proofs.Common.{◌≡◌, ℕ, zero, suc, ◌+◌, ◌-◌, ◌<◌, ◌≤◌, List, [], ◌∷◌, ◌++◌, length, map, drop, take, get_or, reverse, Some, refl, sym, ap, ◌∙◌, arith, append-nil}
+use Rattle.std.proofs.Common.{◌≡◌, ℕ, zero, suc, ◌+◌, ◌-◌, ◌<◌, ◌≤◌, List, [], ◌∷◌, ◌++◌, length, map, drop, take}
+use Rattle.std.proofs.Common.{get_or, reverse, Some, refl, sym, ap, ◌∙◌, arith, append-nil}
 use Rattle.std.specs.Prelude.{codes, flat_map, slice_get}
 use Rattle.std.specs.Global.{Vec}
 use Rattle.std.specs.List.{join_by}
@@ -10,7 +11,8 @@ use Rattle.std.proofs.Math.Seq.{drop-cons}
 use Rattle.cost_tree.specs.Costed.{Costed, costed}
 use Rattle.cost_tree.specs.Inclusive.{own}
 use Rattle.cost_tree.proofs.Laws.{costed-count, take-next}
-use Rattle.convert.specs.Folded.{folded_line, folded_lists, folded_name, folded_path, folded_sums, folded_text, lines_text}
+use Rattle.convert.specs.Folded.{folded_line, folded_lists, folded_name, folded_path, folded_sums, folded_text}
+use Rattle.convert.specs.Folded.{lines_text}
 use Rattle.convert.proofs.Sums.{sums-count}
 use Rattle.cost_tree.specs.Texts.{text_of, texts_of}
 use Rattle.convert.specs.Numbers.{AreSums, later_texts, lines_at, lists_at}

@@ -1,5 +1,6 @@
 -- Lemmas on sums that are kept by lists of numbers, as a number is added.
-use Rattle.std.proofs.Common.{◌≡◌, ℕ, zero, suc, ◌+◌, ◌<◌, ◌≤◌, Bool, true, false, not, cond, ◌||◌, List, [], ◌∷◌, ◌++◌, length, map, get_or, set, refl, sym, ap, ◌∙◌, subst, arith}
+use Rattle.std.proofs.Common.{◌≡◌, ℕ, zero, suc, ◌+◌, ◌<◌, ◌≤◌, Bool, true, false, not, cond, ◌||◌, List, [], ◌∷◌, ◌++◌}
+use Rattle.std.proofs.Common.{length, map, get_or, set, refl, sym, ap, ◌∙◌, subst, arith}
 use Rattle.std.specs.Prelude.{All, sum_by}
 use Rattle.std.specs.Global.{Vec}
 use Rattle.std.specs.List.{list_any, position_or_len}
@@ -15,7 +16,8 @@ use Rattle.intern_tables.specs.Distinct.{AreDistinct}
 use Rattle.convert.specs.Folded.{folded_lists}
 use Rattle.cost_tree.specs.Texts.{IsText, texts_of}
 use Rattle.convert.specs.Numbers.{AreSums}
-use Rattle.convert.proofs.Folding.{is_front-Decides, lists-distinct, lists-more, lists-zero, own-gains, own-kept, own-more, own-none, own-within, own-zero, cost_of}
+use Rattle.convert.proofs.Folding.{is_front-Decides, lists-distinct, lists-more, lists-zero, own-gains, own-kept}
+use Rattle.convert.proofs.Folding.{own-more, own-none, own-within, own-zero, cost_of}
 use Rattle.convert.proofs.Lists.{any-map, place-map}
 use Rattle.convert.proofs.Names.{same_test}
 

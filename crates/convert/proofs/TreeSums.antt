@@ -1,15 +1,20 @@
 -- The tree of some stacks with a line for each of their fronts: what its lines say of the fronts.
-use Rattle.std.proofs.Common.{◌≡◌, ◌≢◌, ◌⊎◌, ℕ, zero, suc, ◌+◌, ◌-◌, ◌<◌, ◌≤◌, inl, inr, List, [], ◌∷◌, ◌++◌, length, map, take, drop, get_or, Some, refl, sym, ap, ◌∙◌, subst, append_assoc, append-nil, arith}
+use Rattle.std.proofs.Common.{◌≡◌, ◌≢◌, ◌⊎◌, ℕ, zero, suc, ◌+◌, ◌-◌, ◌<◌, ◌≤◌, inl, inr, List, [], ◌∷◌, ◌++◌, length}
+use Rattle.std.proofs.Common.{map, take, drop, get_or, Some, refl, sym, ap, ◌∙◌, subst, append_assoc, append-nil, arith}
 use Rattle.std.specs.Prelude.{All, AllPairs, Contains, slice_get}
 use Rattle.std.specs.List.{flat_map}
-use Rattle.std.proofs.lemmas.List.{get_or-map, length-map, length-take, length_push, map-append, take-append-le, take-take, take_all}
-use Rattle.std.proofs.lemmas.List.Elements.{All-cons, All-head, All-nil, All-tail, All-weaker, Contains-append_cases, Contains-append_left, Contains-append_right}
+use Rattle.std.proofs.lemmas.List.{get_or-map, length-map, length-take, length_push, map-append, take-append-le}
+use Rattle.std.proofs.lemmas.List.{take-take, take_all}
+use Rattle.std.proofs.lemmas.List.Elements.{All-cons, All-head, All-nil, All-tail, All-weaker, Contains-append_cases}
+use Rattle.std.proofs.lemmas.List.Elements.{Contains-append_left, Contains-append_right}
 use Rattle.std.proofs.lemmas.Option.{slice_get-get_or, slice_get_within, get_or_from_slice_get}
 use Rattle.cost_tree.specs.declared.scale.Scale.{Scale}
 use Rattle.cost_tree.specs.Costed.{Costed}
-use Rattle.cost_tree.specs.CostLines.{FrontLine, Shown, a_front, gathered, cost_lines, front_line, front_lines, gathered_lines, kept_fronts, last_of}
+use Rattle.cost_tree.specs.CostLines.{FrontLine, Shown, a_front, gathered, cost_lines, front_line, front_lines}
+use Rattle.cost_tree.specs.CostLines.{gathered_lines, kept_fronts, last_of}
 use Rattle.cost_tree.specs.Inclusive.{inclusive}
-use Rattle.cost_tree.proofs.Laws.{All-flat, inclusive-longer, kept-all, kept-apart, kept-held, kept-next, kept-some, next-texts, small-none}
+use Rattle.cost_tree.proofs.Laws.{All-flat, inclusive-longer, kept-all, kept-apart, kept-held, kept-next, kept-some}
+use Rattle.cost_tree.proofs.Laws.{next-texts, small-none}
 use Rattle.dhat_json.specs.Shown.{shown}
 use Rattle.massif_file.specs.TreeLine.{TreeLine}
 use Rattle.massif_tree.specs.declared.options.TreeOptions.{TreeOptions}

@@ -1,5 +1,6 @@
 -- Lemmas on the items of a tree, as its lines are walked.
-use Rattle.std.proofs.Common.{◌≡◌, ℕ, zero, suc, ◌+◌, ◌-◌, ◌<◌, ◌≤◌, List, [], ◌∷◌, ◌++◌, length, map, drop, take, get_or, reverse, Some, refl, sym, ap, ◌∙◌, subst, arith, append_assoc}
+use Rattle.std.proofs.Common.{◌≡◌, ℕ, zero, suc, ◌+◌, ◌-◌, ◌<◌, ◌≤◌, List, [], ◌∷◌, ◌++◌, length, map, drop, take}
+use Rattle.std.proofs.Common.{get_or, reverse, Some, refl, sym, ap, ◌∙◌, subst, arith, append_assoc}
 use Rattle.std.specs.Prelude.{All, slice_get, sum, sum_by}
 use Rattle.std.specs.Option.{option_map}
 use Rattle.std.proofs.lemmas.Grind.{flat_map-append}
@@ -11,7 +12,8 @@ use Rattle.cost_tree.specs.Costed.{Costed}
 use Rattle.dhat_json.specs.Shown.{shown}
 use Rattle.massif_file.specs.TreeLine.{TreeLine}
 use Rattle.convert.specs.declared.path.Level.{Level}
-use Rattle.convert.specs.Levels.{entered, if_open, items_left, left_in, level_at, one_less, path_of, under, without_done}
+use Rattle.convert.specs.Levels.{entered, if_open, items_left, left_in, level_at, one_less, path_of, under}
+use Rattle.convert.specs.Levels.{without_done}
 use Rattle.cost_tree.specs.Texts.{IsText, text_of, texts_of}
 use Rattle.dhat_view.specs.Numbers.{AreNumbers}
 use Rattle.convert.specs.TreeItems.{all_items, below, forest_items, left_bytes, tree_items, without_root}

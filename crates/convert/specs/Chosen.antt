@@ -1,7 +1,8 @@
 -- Which snapshot of a Massif file is folded. The snapshot that is folded is the one with the
 -- number, where it has a tree; without a number the last peak, and where there is none the last
 -- detailed one.
-use Rattle.std.specs.Prelude.{ℕ, true, false, Bool, if◌then◌else◌, List, [], Option, Some, None, slice_get, find, option_and_then, reverse}
+use Rattle.std.specs.Prelude.{ℕ, true, false, Bool, if◌then◌else◌, List, [], Option, Some, None, slice_get, find}
+use Rattle.std.specs.Prelude.{option_and_then, reverse}
 use Rattle.std.specs.Option.{option_map_or, option_or}
 use Rattle.cost_tree.specs.Costed.{Costed}
 use Rattle.massif_file.specs.declared.profile.HeapTree.{HeapTree}

@@ -1,7 +1,8 @@
 -- Folded lines are a line for each different list whose items' numbers have a sum other than 0, by
 -- the first item with it whose number isn't 0: the texts from the last to the first with `;`
 -- between them, a blank and the sum. A `;` within a text is a colon, and no text is `(no stack)`.
-use Rattle.std.specs.Prelude.{ℕ, ◌==◌, if◌then◌else◌, nat_lt, List, [], ◌∷◌, ◌++◌, codes, decimal, filter, flat_map, map, reverse}
+use Rattle.std.specs.Prelude.{ℕ, ◌==◌, if◌then◌else◌, nat_lt, List, [], ◌∷◌, ◌++◌, codes, decimal, filter, flat_map}
+use Rattle.std.specs.Prelude.{map, reverse}
 use Rattle.std.specs.List.{join_by}
 use Rattle.cost_tree.specs.Costed.{Costed}
 use Rattle.cost_tree.specs.Inclusive.{is_front, own}

@@ -1,8 +1,10 @@
 -- Marks: a stack is marked where it stands among the first of the order.
-use Rattle.std.proofs.Common.{◌≡◌, ◌≢◌, ℕ, ◌+◌, ◌-◌, ◌^◌, ◌<◌, ◌≤◌, suc, List, [], ◌∷◌, ◌++◌, length, set, take, Bool, true, false, cond, refl, inl, inr, sym, ap, ◌∙◌, arith}
+use Rattle.std.proofs.Common.{◌≡◌, ◌≢◌, ℕ, ◌+◌, ◌-◌, ◌^◌, ◌<◌, ◌≤◌, suc, List, [], ◌∷◌, ◌++◌, length, set, take, Bool}
+use Rattle.std.proofs.Common.{true, false, cond, refl, inl, inr, sym, ap, ◌∙◌, arith}
 use Rattle.std.specs.Prelude.{◌||◌, slice_index}
 use Rattle.std.proofs.lemmas.Bool.{cases_eq, cases_lt, ne_eqb}
-use Rattle.std.proofs.lemmas.List.{get_or-set_other, get_or-set_same, get_or-take, get_or_append_left, get_or_push, length-set, length_push, length-take-le, take_more_set, take-append-le, take-set-le}
+use Rattle.std.proofs.lemmas.List.{get_or-set_other, get_or-set_same, get_or-take, get_or_append_left, get_or_push}
+use Rattle.std.proofs.lemmas.List.{length-set, length_push, length-take-le, take_more_set, take-append-le, take-set-le}
 use Rattle.cost_history.specs.Marks.{MarksState, RoomyMarks, has, with_mark}
 use Rattle.cost_history.specs.MarksView.{ArePlaced, listed_of, marks_of}
 use Rattle.cost_history.proofs.Marking.{has-at}

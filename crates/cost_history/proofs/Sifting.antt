@@ -1,16 +1,19 @@
 -- Reading changes from their end, and keeping those that a kept place sees.
-use Rattle.std.proofs.Common.{◌≡◌, ℕ, ◌+◌, ◌-◌, ◌^◌, ◌<◌, ◌≤◌, List, [], ◌∷◌, ◌++◌, length, get_or, set, take, drop, inl, inr, sym, ap, subst, ◌∙◌, arith, append_assoc}
+use Rattle.std.proofs.Common.{◌≡◌, ℕ, ◌+◌, ◌-◌, ◌^◌, ◌<◌, ◌≤◌, List, [], ◌∷◌, ◌++◌, length, get_or, set, take, drop}
+use Rattle.std.proofs.Common.{inl, inr, sym, ap, subst, ◌∙◌, arith, append_assoc}
 use Rattle.std.specs.Prelude.{◌⊎◌, All, Contains, slice_index}
 use Rattle.std.proofs.lemmas.List.Elements.{All-cons, All-nil}
 use Rattle.std.proofs.lemmas.List.Kept.{AllPairs-cons}
 use Rattle.std.proofs.lemmas.List.Sorted.{Contains-permutation, IsPermutation-sym}
 use Rattle.std.specs.List.Sorted.{IsPermutation}
 use Rattle.std.proofs.lemmas.Bool.{cases_eq}
-use Rattle.std.proofs.lemmas.List.{append-nil, drop_all, drop-set, get_or-set_other, get_or-set_same, length-set, take_all, take_more, take-set-le}
+use Rattle.std.proofs.lemmas.List.{append-nil, drop_all, drop-set, get_or-set_other, get_or-set_same, length-set}
+use Rattle.std.proofs.lemmas.List.{take_all, take_more, take-set-le}
 use Rattle.cost_history.specs.declared.change.Change.{Change}
 use Rattle.cost_history.specs.Changes.{AreParted, IsAsked, IsBetween, IsParting, cost_at}
 use Rattle.cost_history.specs.Seen.{AreFirst, AreSeen, Has}
-use Rattle.cost_history.proofs.Costs.{between-at, between-before, between-each, between-front, between-raise, between-without, has-later, says-own, without}
+use Rattle.cost_history.proofs.Costs.{between-at, between-before, between-each, between-front, between-raise}
+use Rattle.cost_history.proofs.Costs.{between-without, has-later, says-own, without}
 
 -- of the changes those from i on are read, and those from left on are kept of them
 pub record Sifting (whole changes : List Change) (seen kept : List ℕ) (last left i : ℕ) : Type 0 where

@@ -1,5 +1,6 @@
 -- What a history tells after each of its calls.
-use Rattle.std.proofs.Common.{◌≡◌, ◌≢◌, ℕ, ◌+◌, ◌<◌, ◌≤◌, List, [], ◌∷◌, ◌++◌, length, take, filter, map, append_assoc, Bool, true, false, cond, refl, inl, inr, sym, ap, ◌∙◌, arith}
+use Rattle.std.proofs.Common.{◌≡◌, ◌≢◌, ℕ, ◌+◌, ◌<◌, ◌≤◌, List, [], ◌∷◌, ◌++◌, length, take, filter, map, append_assoc}
+use Rattle.std.proofs.Common.{Bool, true, false, cond, refl, inl, inr, sym, ap, ◌∙◌, arith}
 use Rattle.std.specs.Prelude.{nat_lt, slice_get, Some}
 use Rattle.std.proofs.lemmas.List.{append-nil, take_more}
 use Rattle.std.proofs.lemmas.Option.{get_or_from_slice_get, slice_get_within}
@@ -11,7 +12,8 @@ use Rattle.cost_history.specs.Changes.{IsBetween, cost_at, cost_behind}
 use Rattle.cost_history.specs.HistoryView.{IsKept}
 use Rattle.cost_history.specs.HistoryState.{AreSaid, HistoryState, TellsNow, changes_to}
 use Rattle.cost_history.specs.Marks.{candidates, has, is_marked}
-use Rattle.cost_history.proofs.Costs.{between-stacks, behind-append, behind-beyond, behind-passed, behind-said, says-late, says-other, says-own}
+use Rattle.cost_history.proofs.Costs.{between-stacks, behind-append, behind-beyond, behind-passed, behind-said}
+use Rattle.cost_history.proofs.Costs.{says-late, says-other, says-own}
 use Rattle.cost_history.proofs.Marking.{has-at, has-first, has-others, le-ltb, lt-ltb, unmarked-still}
 
 -- the changes of stacks

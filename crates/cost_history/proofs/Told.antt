@@ -1,13 +1,16 @@
 -- A replay: the costs that the first so many changes say.
-use Rattle.std.proofs.Common.{◌≡◌, ℕ, ◌+◌, ◌<◌, ◌≤◌, zero, suc, List, [], ◌∷◌, ◌++◌, length, get_or, set, take, drop, inl, inr, sym, ap, subst, ◌∙◌, arith}
+use Rattle.std.proofs.Common.{◌≡◌, ℕ, ◌+◌, ◌<◌, ◌≤◌, zero, suc, List, [], ◌∷◌, ◌++◌, length, get_or, set, take, drop}
+use Rattle.std.proofs.Common.{inl, inr, sym, ap, subst, ◌∙◌, arith}
 use Rattle.std.specs.Prelude.{slice_get, slice_index, Some, None}
 use Rattle.std.proofs.lemmas.Option.{get_or_from_slice_get, slice_get_within}
 use Rattle.std.proofs.lemmas.Bool.{cases_eq, cases_lt}
-use Rattle.std.proofs.lemmas.List.{drop_more, get_or_past, get_or_default, get_or-set_other, get_or-set_same, length-set, take_all, take_more, take-append-drop}
+use Rattle.std.proofs.lemmas.List.{drop_more, get_or_past, get_or_default, get_or-set_other, get_or-set_same}
+use Rattle.std.proofs.lemmas.List.{length-set, take_all, take_more, take-append-drop}
 use Rattle.cost_history.specs.declared.change.Change.{Change}
 use Rattle.cost_history.specs.Changes.{IsBetween, cost_at, cost_behind}
 use Rattle.cost_history.specs.ReplayState.{AreOrdered, AreTold, IsDue, IsPast}
-use Rattle.cost_history.proofs.Costs.{behind-append, behind-beyond, behind-late, behind-passed, behind-said, between-at, says-other, says-own}
+use Rattle.cost_history.proofs.Costs.{behind-append, behind-beyond, behind-late, behind-passed, behind-said, between-at}
+use Rattle.cost_history.proofs.Costs.{says-other, says-own}
 
 -- costs that are told at a place are told at a later one
 pub told-later : (costs : List ℕ) (changes : List Change) (next place later : ℕ) → place ≤ later

@@ -1,7 +1,8 @@
 -- What a list of changes says that stacks cost. What a stack costs at a place is what the last
 -- change up to there says, and 0 where none does; changes are parted where between two of one stack
 -- a kept place stands.
-use Rattle.std.specs.Prelude.{◌≡◌, ℕ, ◌<◌, ◌≤◌, ◌==◌, ◌&&◌, ◌⊎◌, nat_le, Bool, if◌then◌else◌, List, [], ◌∷◌, AllPairs, Contains}
+use Rattle.std.specs.Prelude.{◌≡◌, ℕ, ◌<◌, ◌≤◌, ◌==◌, ◌&&◌, ◌⊎◌, nat_le, Bool, if◌then◌else◌, List, [], ◌∷◌, AllPairs}
+use Rattle.std.specs.Prelude.{Contains}
 use Rattle.cost_history.specs.declared.change.Change.{Change}
 
 -- whether the change is of the stack, and is made at the place or before

@@ -1,33 +1,6 @@
 -- The children of a node stand for the fronts that are one text longer than the node's.
-use Rattle.std.proofs.Common.{
-  ◌≡◌,
-  ℕ,
-  ◌+◌,
-  ◌<◌,
-  ◌≤◌,
-  inl,
-  inr,
-  ◌&&◌,
-  Bool,
-  true,
-  eqb,
-  List,
-  [],
-  ◌∷◌,
-  ◌++◌,
-  length,
-  map,
-  filter,
-  take,
-  get_or,
-  Some,
-  refl,
-  sym,
-  ap,
-  ◌∙◌,
-  subst,
-  arith,
-}
+use Rattle.std.proofs.Common.{◌≡◌, ℕ, ◌+◌, ◌<◌, ◌≤◌, inl, inr, ◌&&◌, Bool, true, eqb, List, [], ◌∷◌, ◌++◌, length, map}
+use Rattle.std.proofs.Common.{filter, take, get_or, Some, refl, sym, ap, ◌∙◌, subst, arith}
 use Rattle.std.specs.Prelude.{Contains, nat_lt, slice_get}
 use Rattle.std.specs.List.{range_with_len}
 use Rattle.std.specs.Option.{option_map_or}
@@ -45,15 +18,8 @@ use Rattle.cost_tree.specs.NextFronts.{longer_front, next_fronts, opens, texts_a
 use Rattle.cost_tree.specs.TreeState.{TreeState}
 use Rattle.cost_tree.proofs.Forests.{IsForest}
 use Rattle.cost_tree.proofs.Ascending.{ascending-same, mapped-from, mapped-pairs, mapped-same, mapped-to}
-use Rattle.cost_tree.proofs.Linking.{
-  children_of-all,
-  children_of-only,
-  children_of-ordered,
-  contains_ranged,
-  no_node,
-  ordered,
-  ranged,
-}
+use Rattle.cost_tree.proofs.Linking.{children_of-all, children_of-only, children_of-ordered, contains_ranged, no_node}
+use Rattle.cost_tree.proofs.Linking.{ordered, ranged}
 use Rattle.cost_tree.proofs.Prefixes.{has_front-Decides}
 use Rattle.cost_tree.proofs.Sums.{inclusive-some, least-within}
 use Rattle.cost_tree.proofs.Trees.{least-has}

@@ -1,52 +1,12 @@
 -- Lemmas on lists of numbers that go on with earlier ones.
-use Rattle.std.proofs.Common.{
-  ◌≡◌,
-  ℕ,
-  suc,
-  ◌+◌,
-  ◌-◌,
-  ◌^◌,
-  ◌<◌,
-  ◌≤◌,
-  inl,
-  inr,
-  List,
-  [],
-  ◌∷◌,
-  ◌++◌,
-  drop,
-  fold,
-  length,
-  take,
-  min,
-  get_or,
-  Option,
-  None,
-  Some,
-  refl,
-  sym,
-  ap,
-  ◌∙◌,
-  subst,
-  append_assoc,
-  length-append,
-  arith,
-}
+use Rattle.std.proofs.Common.{◌≡◌, ℕ, suc, ◌+◌, ◌-◌, ◌^◌, ◌<◌, ◌≤◌, inl, inr, List, [], ◌∷◌, ◌++◌, drop, fold, length}
+use Rattle.std.proofs.Common.{take, min, get_or, Option, None, Some, refl, sym, ap, ◌∙◌, subst, append_assoc}
+use Rattle.std.proofs.Common.{length-append, arith}
 use Rattle.std.specs.Prelude.{IfSome, slice_get}
 use Rattle.std.specs.Option.{option_map_or}
 use Rattle.std.proofs.lemmas.Bool.{cases_lt}
-use Rattle.std.proofs.lemmas.List.{
-  drop-append-le,
-  drop_at,
-  get_or_append_left,
-  length-drop,
-  length-take,
-  length_push,
-  take-append-le,
-  take-take,
-  take_all,
-  take_min,
-}
+use Rattle.std.proofs.lemmas.List.{drop-append-le, drop_at, get_or_append_left, length-drop, length-take, length_push}
+use Rattle.std.proofs.lemmas.List.{take-append-le, take-take, take_all, take_min}
 use Rattle.std.proofs.lemmas.List.Sums.{fold_push}
 use Rattle.std.proofs.lemmas.Option.{none-some, slice_get_within, slice_get-get_or, get_or_from_slice_get}
 use Rattle.cost_tree.specs.declared.chain.Chain.{Chain}

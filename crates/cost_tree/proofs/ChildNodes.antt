@@ -1,29 +1,6 @@
 -- Lemmas on the nodes of a tree: their fronts, their costs and their children.
-use Rattle.std.proofs.Common.{
-  ◌≡◌,
-  ℕ,
-  suc,
-  ◌+◌,
-  ◌<◌,
-  ◌≤◌,
-  inl,
-  inr,
-  not,
-  Bool,
-  List,
-  [],
-  ◌∷◌,
-  length,
-  map,
-  filter,
-  get_or,
-  Some,
-  refl,
-  sym,
-  ap,
-  ◌∙◌,
-  arith,
-}
+use Rattle.std.proofs.Common.{◌≡◌, ℕ, suc, ◌+◌, ◌<◌, ◌≤◌, inl, inr, not, Bool, List, [], ◌∷◌, length, map, filter}
+use Rattle.std.proofs.Common.{get_or, Some, refl, sym, ap, ◌∙◌, arith}
 use Rattle.std.specs.Prelude.{All, Contains, slice_get, sum_by}
 use Rattle.std.specs.Option.{option_map_or}
 use Rattle.std.proofs.lemmas.Bool.{cases_lt}

@@ -1,29 +1,6 @@
 -- Lists that are cut behind a front without a line have the lines of the whole lists.
-use Rattle.std.proofs.Common.{
-  ◌≡◌,
-  ℕ,
-  zero,
-  suc,
-  ◌+◌,
-  ◌<◌,
-  ◌≤◌,
-  inl,
-  inr,
-  false,
-  List,
-  [],
-  ◌∷◌,
-  ◌++◌,
-  length,
-  map,
-  take,
-  Some,
-  refl,
-  sym,
-  ap,
-  ◌∙◌,
-  arith,
-}
+use Rattle.std.proofs.Common.{◌≡◌, ℕ, zero, suc, ◌+◌, ◌<◌, ◌≤◌, inl, inr, false, List, [], ◌∷◌, ◌++◌, length, map, take}
+use Rattle.std.proofs.Common.{Some, refl, sym, ap, ◌∙◌, arith}
 use Rattle.std.specs.Prelude.{All, slice_get}
 use Rattle.std.proofs.lemmas.Bool.{both_ways, cases_lt}
 use Rattle.std.proofs.lemmas.List.{length-map, take-take, take_all}
@@ -31,29 +8,12 @@ use Rattle.std.proofs.lemmas.List.Elements.{All-weaker}
 use Rattle.std.proofs.lemmas.Option.{none-some, same_Some}
 use Rattle.cost_tree.specs.declared.scale.Scale.{Scale}
 use Rattle.cost_tree.specs.Costed.{Costed, costed}
-use Rattle.cost_tree.specs.CostLines.{
-  FrontLine,
-  cost_lines,
-  cost_of,
-  front_line,
-  front_lines,
-  gathered_lines,
-  is_small,
-  kept_fronts,
-  small_fronts,
-}
+use Rattle.cost_tree.specs.CostLines.{FrontLine, cost_lines, cost_of, front_line, front_lines, gathered_lines, is_small}
+use Rattle.cost_tree.specs.CostLines.{kept_fronts, small_fronts}
 use Rattle.cost_tree.specs.Cuts.{AreEnough, IsEnough, cut_lists}
 use Rattle.cost_tree.specs.NextFronts.{texts_at}
-use Rattle.cost_tree.proofs.Firsts.{
-  AreFirst,
-  AreFirstTo,
-  IsCostly,
-  fewer-first,
-  kept-costly,
-  line-same,
-  lines-below,
-  one-longer,
-}
+use Rattle.cost_tree.proofs.Firsts.{AreFirst, AreFirstTo, IsCostly, fewer-first, kept-costly, line-same, lines-below}
+use Rattle.cost_tree.proofs.Firsts.{one-longer}
 use Rattle.cost_tree.proofs.Prefixes.{has_front-Decides}
 use Rattle.cost_tree.proofs.Walks.{lists-same}
 

@@ -1,35 +1,6 @@
 -- Stacks of which only first texts are left go on from a front as the whole ones do, where these are enough for that.
-use Rattle.std.proofs.Common.{
-  ◌≡◌,
-  ℕ,
-  zero,
-  suc,
-  ◌+◌,
-  ◌<◌,
-  ◌≤◌,
-  inl,
-  inr,
-  ◌&&◌,
-  not,
-  Bool,
-  true,
-  false,
-  eqb,
-  cond,
-  List,
-  [],
-  ◌∷◌,
-  ◌++◌,
-  length,
-  map,
-  filter,
-  take,
-  refl,
-  sym,
-  ap,
-  ◌∙◌,
-  arith,
-}
+use Rattle.std.proofs.Common.{◌≡◌, ℕ, zero, suc, ◌+◌, ◌<◌, ◌≤◌, inl, inr, ◌&&◌, not, Bool, true, false, eqb, cond, List}
+use Rattle.std.proofs.Common.{[], ◌∷◌, ◌++◌, length, map, filter, take, refl, sym, ap, ◌∙◌, arith}
 use Rattle.std.specs.Prelude.{All, nat_lt}
 use Rattle.std.specs.List.{flat_map, range_with_len}
 use Rattle.std.proofs.lemmas.Bool.{both_ways, cases_Bool, cases_lt, false_from_ne_true, lt-ltb, ltb-true}
@@ -39,19 +10,8 @@ use Rattle.std.proofs.lemmas.List.Elements.{All-filter, All-weaker, filter_passe
 use Rattle.std.proofs.lemmas.List.Sorted.{All-permutation}
 use Rattle.cost_tree.specs.declared.scale.Scale.{Scale}
 use Rattle.cost_tree.specs.Costed.{Costed}
-use Rattle.cost_tree.specs.CostLines.{
-  FrontLine,
-  a_front,
-  cost_of,
-  front_line,
-  front_lines,
-  gathered,
-  gathered_lines,
-  is_small,
-  kept_fronts,
-  last_of,
-  small_fronts,
-}
+use Rattle.cost_tree.specs.CostLines.{FrontLine, a_front, cost_of, front_line, front_lines, gathered, gathered_lines}
+use Rattle.cost_tree.specs.CostLines.{is_small, kept_fronts, last_of, small_fronts}
 use Rattle.cost_tree.specs.Inclusive.{has_front, inclusive, least}
 use Rattle.cost_tree.specs.NextFronts.{longer_front, next_fronts, opens, texts_at}
 use Rattle.cost_tree.specs.Order.{by_cost}

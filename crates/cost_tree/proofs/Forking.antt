@@ -1,30 +1,6 @@
 -- Lists that are long enough for lines where each costs 1 and two of them have one: what is left of each goes on alone.
-use Rattle.std.proofs.Common.{
-  ◌≡◌,
-  ◌≢◌,
-  ℕ,
-  zero,
-  suc,
-  ◌+◌,
-  ◌*◌,
-  ◌≤◌,
-  inl,
-  inr,
-  Bool,
-  true,
-  cond,
-  List,
-  [],
-  ◌∷◌,
-  length,
-  replicate,
-  take,
-  Some,
-  refl,
-  ap,
-  ◌∙◌,
-  arith,
-}
+use Rattle.std.proofs.Common.{◌≡◌, ◌≢◌, ℕ, zero, suc, ◌+◌, ◌*◌, ◌≤◌, inl, inr, Bool, true, cond, List, [], ◌∷◌, length}
+use Rattle.std.proofs.Common.{replicate, take, Some, refl, ap, ◌∙◌, arith}
 use Rattle.std.specs.Prelude.{slice_get}
 use Rattle.std.proofs.lemmas.Bool.{cases_eq, ltb-true}
 use Rattle.std.proofs.lemmas.Option.{none-some, same_Some}

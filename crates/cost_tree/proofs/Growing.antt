@@ -1,38 +1,8 @@
 -- Lemmas on a tree that grows, as one list is added: it is counted at node 0, reaches a node that is there, makes nodes, and
 -- ends.
-use Rattle.std.proofs.Common.{
-  ◌≡◌,
-  ◌≢◌,
-  ℕ,
-  zero,
-  suc,
-  ◌+◌,
-  ◌<◌,
-  ◌≤◌,
-  ◌⊎◌,
-  inl,
-  inr,
-  ◌==◌,
-  Bool,
-  true,
-  false,
-  if◌then◌else◌,
-  List,
-  [],
-  ◌∷◌,
-  ◌++◌,
-  length,
-  get_or,
-  set,
-  take,
-  Some,
-  refl,
-  sym,
-  ap,
-  ◌∙◌,
-  subst,
-  arith,
-}
+use Rattle.std.proofs.Common.{◌≡◌, ◌≢◌, ℕ, zero, suc, ◌+◌, ◌<◌, ◌≤◌, ◌⊎◌, inl, inr, ◌==◌, Bool, true, false}
+use Rattle.std.proofs.Common.{if◌then◌else◌, List, [], ◌∷◌, ◌++◌, length, get_or, set, take, Some, refl, sym, ap, ◌∙◌}
+use Rattle.std.proofs.Common.{subst, arith}
 use Rattle.std.specs.Prelude.{slice_get}
 use Rattle.std.proofs.lemmas.Bool.{cases_Bool, cases_lt, cond-true, cond-false, eq-eqb, false_from_ne_true, ne_eqb}
 use Rattle.std.proofs.lemmas.List.{length-take, take_all}
@@ -45,32 +15,11 @@ use Rattle.cost_tree.specs.Costed.{Costed}
 use Rattle.cost_tree.specs.Growth.{AreBranches, IsGrown, counted, ended, ending}
 use Rattle.cost_tree.specs.Inclusive.{has_front, inclusive, is_front, least, own}
 use Rattle.cost_tree.proofs.Lists.{get-push_cases, get-push_old, get-push_new, get-set_cases}
-use Rattle.cost_tree.proofs.Prefixes.{
-  has_front-Decides,
-  has_front-longer,
-  has_front-take,
-  is_front-Decides,
-  is_front-has,
-  same_or_not,
-}
-use Rattle.cost_tree.proofs.Sums.{
-  AddsAt,
-  SameTo,
-  SameTo-end,
-  SameTo-free,
-  inclusive-push,
-  inclusive-shorter,
-  least-push_old,
-  least-within,
-  own-free,
-  own-le-inclusive,
-  own-push_other,
-  own-push_same,
-  part,
-  part-free,
-  part-has,
-  part-other,
-}
+use Rattle.cost_tree.proofs.Prefixes.{has_front-Decides, has_front-longer, has_front-take, is_front-Decides}
+use Rattle.cost_tree.proofs.Prefixes.{is_front-has, same_or_not}
+use Rattle.cost_tree.proofs.Sums.{AddsAt, SameTo, SameTo-end, SameTo-free, inclusive-push, inclusive-shorter}
+use Rattle.cost_tree.proofs.Sums.{least-push_old, least-within, own-free, own-le-inclusive, own-push_other}
+use Rattle.cost_tree.proofs.Sums.{own-push_same, part, part-free, part-has, part-other}
 
 -- what one stack adds to what ends at a front
 end_part : ℕ → List (List ℕ) → Costed → ℕ

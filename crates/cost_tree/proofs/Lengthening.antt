@@ -1,69 +1,15 @@
 -- Lemmas on lists of numbers that are cut, and made longer where they cost enough for a line.
-use Rattle.std.proofs.Common.{
-  ◌≡◌,
-  ℕ,
-  zero,
-  suc,
-  ◌+◌,
-  ◌*◌,
-  ◌<◌,
-  ◌≤◌,
-  ◌⊎◌,
-  inl,
-  inr,
-  ◌&&◌,
-  not,
-  Bool,
-  true,
-  false,
-  eqb,
-  cond,
-  List,
-  [],
-  ◌∷◌,
-  ◌++◌,
-  length,
-  map,
-  min,
-  replicate,
-  set,
-  take,
-  get_or,
-  Some,
-  refl,
-  sym,
-  ap,
-  ◌∙◌,
-  subst,
-  sum,
-  arith,
-}
+use Rattle.std.proofs.Common.{◌≡◌, ℕ, zero, suc, ◌+◌, ◌*◌, ◌<◌, ◌≤◌, ◌⊎◌, inl, inr, ◌&&◌, not, Bool, true, false, eqb}
+use Rattle.std.proofs.Common.{cond, List, [], ◌∷◌, ◌++◌, length, map, min, replicate, set, take, get_or, Some, refl}
+use Rattle.std.proofs.Common.{sym, ap, ◌∙◌, subst, sum, arith}
 use Rattle.std.specs.Prelude.{All, nat_lt, slice_get, slice_index}
 use Rattle.std.specs.Str.{bytes_eq}
-use Rattle.std.proofs.lemmas.Bool.{
-  both_ways,
-  cases_Bool,
-  cases_eq,
-  cases_lt,
-  cond_both,
-  eq-eqb,
-  eqb-true,
-  lt-ltb,
-  ltb-true,
-  ne_eqb,
-}
+use Rattle.std.proofs.lemmas.Bool.{both_ways, cases_Bool, cases_eq, cases_lt, cond_both, eq-eqb, eqb-true, lt-ltb}
+use Rattle.std.proofs.lemmas.Bool.{ltb-true, ne_eqb}
 use Rattle.std.proofs.lemmas.Bool.Decides.{same_from_decides}
 use Rattle.std.proofs.lemmas.Grind.{get_or-set_at}
-use Rattle.std.proofs.lemmas.List.{
-  get_or-replicate,
-  get_or-set_other,
-  length-map,
-  length-take,
-  map-append,
-  take-map,
-  take-take,
-  take_more,
-}
+use Rattle.std.proofs.lemmas.List.{get_or-replicate, get_or-set_other, length-map, length-take, map-append, take-map}
+use Rattle.std.proofs.lemmas.List.{take-take, take_more}
 use Rattle.std.proofs.lemmas.List.Elements.{All-cons, All-head, All-nil, All-tail, All-take}
 use Rattle.std.proofs.lemmas.List.Sums.{sum_by-cons, sum_by-take-le}
 use Rattle.std.proofs.lemmas.Option.{none-some, same_Some, slice_get-get_or, slice_get_within}

@@ -5,15 +5,8 @@ use Rattle.std.specs.List.{flat_map}
 use Rattle.std.proofs.lemmas.List.Elements.{All-append, All-cons, All-nil}
 use Rattle.cost_tree.specs.declared.scale.Scale.{Scale}
 use Rattle.cost_tree.specs.Costed.{Costed}
-use Rattle.cost_tree.specs.CostLines.{
-  FrontLine,
-  cost_lines,
-  front_line,
-  front_lines,
-  gathered_lines,
-  kept_fronts,
-  small_fronts,
-}
+use Rattle.cost_tree.specs.CostLines.{FrontLine, cost_lines, front_line, front_lines, gathered_lines, kept_fronts}
+use Rattle.cost_tree.specs.CostLines.{small_fronts}
 use Rattle.cost_tree.specs.IsShownAs.{IsLevelled}
 use Rattle.cost_tree.proofs.Lists.{All-flat}
 

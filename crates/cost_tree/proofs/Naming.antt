@@ -1,25 +1,6 @@
 -- Lemmas on texts and their numbers.
-use Rattle.std.proofs.Common.{
-  ◌≡◌,
-  ℕ,
-  zero,
-  suc,
-  ◌-◌,
-  inl,
-  inr,
-  ◌==◌,
-  Bool,
-  false,
-  cond,
-  List,
-  [],
-  get_or,
-  None,
-  sym,
-  ap,
-  ◌∙◌,
-  arith,
-}
+use Rattle.std.proofs.Common.{◌≡◌, ℕ, zero, suc, ◌-◌, inl, inr, ◌==◌, Bool, false, cond, List, [], get_or, None, sym}
+use Rattle.std.proofs.Common.{ap, ◌∙◌, arith}
 use Rattle.std.specs.Prelude.{slice_get, unwrap_or}
 use Rattle.std.proofs.lemmas.Bool.{cases_order, ne_eqb}
 use Rattle.std.proofs.lemmas.Option.{unwrap_or-slice_get}

@@ -10,15 +10,8 @@ use Rattle.cost_tree.specs.declared.children.Gathered.{Gathered}
 use Rattle.cost_tree.specs.declared.scale.Scale.{Scale}
 use Rattle.cost_tree.specs.declared.lines.Pending.{Pending}
 use Rattle.cost_tree.specs.declared.lines.Pending.TheVariants.{Below}
-use Rattle.cost_tree.specs.Shares.{
-  child_at,
-  cost_at,
-  gathered_in,
-  is_kept_at,
-  is_small_at,
-  kept_children,
-  small_children,
-}
+use Rattle.cost_tree.specs.Shares.{child_at, cost_at, gathered_in, is_kept_at, is_small_at, kept_children}
+use Rattle.cost_tree.specs.Shares.{small_children}
 use Rattle.cost_tree.specs.Order.{by_cost}
 use Rattle.cost_tree.specs.Pendings.{pending_child, pending_children, pending_gathered}
 use Rattle.cost_tree.proofs.Orders.{by_cost-map}

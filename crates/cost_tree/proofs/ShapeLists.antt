@@ -1,61 +1,12 @@
 -- Lemmas on the lists of a shape, as one is appended, or a number is appended to the last.
-use Rattle.std.proofs.Common.{
-  ◌≡◌,
-  ℕ,
-  zero,
-  suc,
-  ◌+◌,
-  ◌-◌,
-  ◌^◌,
-  ◌<◌,
-  ◌≤◌,
-  ◌⊎◌,
-  inl,
-  inr,
-  List,
-  [],
-  ◌∷◌,
-  ◌++◌,
-  length,
-  take,
-  get_or,
-  set,
-  Some,
-  refl,
-  sym,
-  ap,
-  ◌∙◌,
-  subst,
-  arith,
-}
+use Rattle.std.proofs.Common.{◌≡◌, ℕ, zero, suc, ◌+◌, ◌-◌, ◌^◌, ◌<◌, ◌≤◌, ◌⊎◌, inl, inr, List, [], ◌∷◌, ◌++◌, length}
+use Rattle.std.proofs.Common.{take, get_or, set, Some, refl, sym, ap, ◌∙◌, subst, arith}
 use Rattle.std.specs.Prelude.{All, Contains, slice_get}
-use Rattle.std.proofs.lemmas.List.{
-  get_or-map,
-  get_or_read,
-  get_or_append_left,
-  get_or_at,
-  length-map,
-  length-set,
-  length_push,
-  map-append,
-  map-set,
-  set_at,
-  take_all,
-  take_more,
-}
-use Rattle.std.proofs.lemmas.List.Elements.{
-  All-append,
-  All-cons,
-  All-contains,
-  All-head,
-  All-nil,
-  All-set,
-  All-tail,
-  All-weaker,
-  Contains-append_cases,
-  Contains-append_left,
-  Contains-append_right,
-}
+use Rattle.std.proofs.lemmas.List.{get_or-map, get_or_read, get_or_append_left, get_or_at, length-map, length-set}
+use Rattle.std.proofs.lemmas.List.{length_push, map-append, map-set, set_at, take_all, take_more}
+use Rattle.std.proofs.lemmas.List.Elements.{All-append, All-cons, All-contains, All-head, All-nil, All-set, All-tail}
+use Rattle.std.proofs.lemmas.List.Elements.{All-weaker, Contains-append_cases, Contains-append_left}
+use Rattle.std.proofs.lemmas.List.Elements.{Contains-append_right}
 use Rattle.std.proofs.lemmas.Option.{slice_get_within, slice_get-get_or, get_or_from_slice_get}
 use Rattle.intern_tables.specs.Distinct.{AreDistinct}
 use Rattle.cost_tree.specs.declared.edge.Edge.{Edge}

@@ -1,29 +1,6 @@
 -- What a sort by cost and node gives.
-use Rattle.std.proofs.Common.{
-  ◌≡◌,
-  ◌≢◌,
-  ℕ,
-  ◌<◌,
-  ◌==◌,
-  inl,
-  inr,
-  Bool,
-  false,
-  cond,
-  List,
-  get_or,
-  sym,
-  ap,
-  ◌∙◌,
-  arith,
-  IsPermutation,
-  Ordering,
-  Less,
-  Equal,
-  Greater,
-  is_lt,
-  true≢false,
-}
+use Rattle.std.proofs.Common.{◌≡◌, ◌≢◌, ℕ, ◌<◌, ◌==◌, inl, inr, Bool, false, cond, List, get_or, sym, ap, ◌∙◌, arith}
+use Rattle.std.proofs.Common.{IsPermutation, Ordering, Less, Equal, Greater, is_lt, true≢false}
 use Rattle.std.specs.Prelude.{AllPairs, nat_lt}
 use Rattle.std.specs.Cmp.{IsTotalOrder}
 use Rattle.std.specs.List.Sorted.{IsSortedBy}

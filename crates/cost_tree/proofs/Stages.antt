@@ -1,48 +1,10 @@
 -- Lemmas on a tree along a shape while a list is added, node by node.
-use Rattle.std.proofs.Common.{
-  ◌≡◌,
-  ◌≢◌,
-  ℕ,
-  zero,
-  suc,
-  ◌+◌,
-  ◌-◌,
-  ◌<◌,
-  ◌≤◌,
-  inl,
-  inr,
-  List,
-  [],
-  ◌∷◌,
-  ◌++◌,
-  length,
-  map,
-  get_or,
-  replicate,
-  set,
-  take,
-  Some,
-  refl,
-  sym,
-  ap,
-  ◌∙◌,
-  subst,
-  arith,
-  get_or-set_other,
-}
+use Rattle.std.proofs.Common.{◌≡◌, ◌≢◌, ℕ, zero, suc, ◌+◌, ◌-◌, ◌<◌, ◌≤◌, inl, inr, List, [], ◌∷◌, ◌++◌, length, map}
+use Rattle.std.proofs.Common.{get_or, replicate, set, take, Some, refl, sym, ap, ◌∙◌, subst, arith, get_or-set_other}
 use Rattle.std.specs.Prelude.{All, slice_get, slice_index, sum_by}
 use Rattle.std.proofs.lemmas.Bool.{cases_eq}
-use Rattle.std.proofs.lemmas.List.{
-  length-map,
-  length-replicate,
-  length-set,
-  length-take-le,
-  length_push,
-  map-append,
-  same_from_push,
-  take-map,
-  take_more,
-}
+use Rattle.std.proofs.lemmas.List.{length-map, length-replicate, length-set, length-take-le, length_push, map-append}
+use Rattle.std.proofs.lemmas.List.{same_from_push, take-map, take_more}
 use Rattle.std.proofs.lemmas.List.Elements.{All-cons, All-nil, All-set, All-weaker}
 use Rattle.std.proofs.lemmas.List.Sums.{sum_by_push}
 use Rattle.std.proofs.lemmas.Option.{none-some, same_Some, slice_get_within, get_or_from_slice_get}
@@ -57,14 +19,8 @@ use Rattle.cost_tree.specs.Shapes.{AreSteps, list_at, next_front, numbers_of, pa
 use Rattle.cost_tree.specs.Texts.{AreNames, IsText, fronts_of, text_of, texts_of}
 use Rattle.cost_tree.proofs.Ascents.{IsLeft, free-above}
 use Rattle.cost_tree.proofs.Growing.{IsGrown-made, IsGrown-reached}
-use Rattle.cost_tree.proofs.Lists.{
-  get-push_cases,
-  get-push_old,
-  get-push_new,
-  get-set_cases,
-  get-set_other,
-  get-set_same,
-}
+use Rattle.cost_tree.proofs.Lists.{get-push_cases, get-push_old, get-push_new, get-set_cases, get-set_other}
+use Rattle.cost_tree.proofs.Lists.{get-set_same}
 use Rattle.cost_tree.proofs.Steps.{AreSteps-named, AreSteps-push, fronts_of-map, get-mapped, next_front-is, paths-push}
 use Rattle.cost_tree.proofs.Sums.{AddsAt, AddsAt-more, inclusive-push}
 

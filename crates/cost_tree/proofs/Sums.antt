@@ -1,62 +1,17 @@
 -- Lemmas on what stacks cost, as they become more or one becomes longer.
-use Rattle.std.proofs.Common.{
-  ◌≡◌,
-  ◌≢◌,
-  ℕ,
-  ◌+◌,
-  ◌<◌,
-  ◌≤◌,
-  ◌⊎◌,
-  inl,
-  inr,
-  Bool,
-  true,
-  false,
-  ◌&&◌,
-  not,
-  cond,
-  List,
-  [],
-  ◌∷◌,
-  ◌++◌,
-  drop,
-  length,
-  take,
-  get_or,
-  refl,
-  sym,
-  ap,
-  ◌∙◌,
-  subst,
-  arith,
-}
+use Rattle.std.proofs.Common.{◌≡◌, ◌≢◌, ℕ, ◌+◌, ◌<◌, ◌≤◌, ◌⊎◌, inl, inr, Bool, true, false, ◌&&◌, not, cond, List, []}
+use Rattle.std.proofs.Common.{◌∷◌, ◌++◌, drop, length, take, get_or, refl, sym, ap, ◌∙◌, subst, arith}
 use Rattle.std.specs.Prelude.{sum_by, nat_lt, nat_eq}
-use Rattle.std.proofs.lemmas.Bool.{
-  cases_Bool,
-  cases_lt,
-  cond-true,
-  cond-false,
-  lt-ltb,
-  and_right,
-  and_from,
-  false_from_ne_true,
-}
+use Rattle.std.proofs.lemmas.Bool.{cases_Bool, cases_lt, cond-true, cond-false, lt-ltb, and_right, and_from}
+use Rattle.std.proofs.lemmas.Bool.{false_from_ne_true}
 use Rattle.std.proofs.lemmas.Bool.Decides.{nat_tests}
 use Rattle.std.proofs.lemmas.List.{length-take, take-append-drop, take-append-le, take-take, take_all}
 use Rattle.std.proofs.lemmas.List.Sums.{get_or-le-sum_by, sum_by-cons, sum_by_push, sum_by-le-sum_by}
 use Rattle.std.proofs.lemmas.List.Folds.{position_or_len_push}
 use Rattle.cost_tree.specs.Costed.{Costed}
 use Rattle.cost_tree.specs.Inclusive.{has_front, is_front, inclusive, own, least}
-use Rattle.cost_tree.proofs.Prefixes.{
-  has_front-Decides,
-  has_front-take,
-  has_front-longer,
-  has_front-itself,
-  has_front-more,
-  is_front-has,
-  is_front-Decides,
-  same_or_not,
-}
+use Rattle.cost_tree.proofs.Prefixes.{has_front-Decides, has_front-take, has_front-longer, has_front-itself}
+use Rattle.cost_tree.proofs.Prefixes.{has_front-more, is_front-has, is_front-Decides, same_or_not}
 
 -- what one stack adds to a front's cost
 unfoldable pub part : List (List ℕ) → Costed → ℕ

@@ -1,57 +1,12 @@
 -- The lines of lists that are cut where they go on alone, each with its tail, are those of the whole lists.
-use Rattle.std.proofs.Common.{
-  ◌≡◌,
-  ℕ,
-  zero,
-  suc,
-  ◌+◌,
-  ◌-◌,
-  ◌<◌,
-  ◌≤◌,
-  ◌⊎◌,
-  inl,
-  inr,
-  ◌&&◌,
-  Bool,
-  true,
-  false,
-  eqb,
-  cond,
-  List,
-  [],
-  ◌∷◌,
-  ◌++◌,
-  length,
-  map,
-  take,
-  get_or,
-  Option,
-  None,
-  Some,
-  refl,
-  sym,
-  ap,
-  ◌∙◌,
-  subst,
-  append-nil,
-  arith,
-}
+use Rattle.std.proofs.Common.{◌≡◌, ℕ, zero, suc, ◌+◌, ◌-◌, ◌<◌, ◌≤◌, ◌⊎◌, inl, inr, ◌&&◌, Bool, true, false, eqb, cond}
+use Rattle.std.proofs.Common.{List, [], ◌∷◌, ◌++◌, length, map, take, get_or, Option, None, Some, refl, sym, ap, ◌∙◌}
+use Rattle.std.proofs.Common.{subst, append-nil, arith}
 use Rattle.std.specs.Prelude.{All, nat_lt, slice_get}
 use Rattle.std.specs.List.{flat_map, range_with_len}
 use Rattle.std.specs.Option.{option_map_or}
-use Rattle.std.proofs.lemmas.Bool.{
-  and_from,
-  and_parts,
-  both_ways,
-  cases_Bool,
-  cases_lt,
-  eq-eqb,
-  eqb-true,
-  false≢true,
-  false_from_ne_true,
-  lt-ltb,
-  ltb-true,
-}
+use Rattle.std.proofs.lemmas.Bool.{and_from, and_parts, both_ways, cases_Bool, cases_lt, eq-eqb, eqb-true, false≢true}
+use Rattle.std.proofs.lemmas.Bool.{false_from_ne_true, lt-ltb, ltb-true}
 use Rattle.std.proofs.lemmas.Grind.{flat_map-append}
 use Rattle.std.proofs.lemmas.List.{length-map, length-take, take-take, take_all}
 use Rattle.std.proofs.lemmas.List.Elements.{All-head, All-tail, All-weaker}
@@ -64,18 +19,8 @@ use Rattle.cost_tree.specs.declared.scale.Scale.{Scale}
 use Rattle.cost_tree.specs.Alone.{AreAlone}
 use Rattle.cost_tree.specs.AreLinesOf.{AreLinesOf}
 use Rattle.cost_tree.specs.Costed.{Costed, costed}
-use Rattle.cost_tree.specs.CostLines.{
-  FrontLine,
-  a_front,
-  cost_lines,
-  cost_of,
-  front_line,
-  front_lines,
-  gathered_lines,
-  is_small,
-  kept_fronts,
-  small_fronts,
-}
+use Rattle.cost_tree.specs.CostLines.{FrontLine, a_front, cost_lines, cost_of, front_line, front_lines, gathered_lines}
+use Rattle.cost_tree.specs.CostLines.{is_small, kept_fronts, small_fronts}
 use Rattle.cost_tree.specs.Cuts.{cut_lists}
 use Rattle.cost_tree.specs.Inclusive.{has_front, inclusive, least}
 use Rattle.cost_tree.specs.IsShownAs.{IsLevelled, IsLevelOf}
@@ -87,19 +32,8 @@ use Rattle.cost_tree.specs.TreeState.{TreeState}
 use Rattle.cost_tree.specs.TreeTails.{first_at, tailed_at}
 use Rattle.cost_tree.proofs.Alone.{IsAlone, lines-none, lone-lines, next-none}
 use Rattle.cost_tree.proofs.Brothers.{texts_at-held}
-use Rattle.cost_tree.proofs.Firsts.{
-  AreFirst,
-  AreFirstTo,
-  IsCostly,
-  begins-at,
-  inclusive-same,
-  kept-costly,
-  least-same,
-  line-same,
-  lines-below,
-  next-first,
-  one-longer,
-}
+use Rattle.cost_tree.proofs.Firsts.{AreFirst, AreFirstTo, IsCostly, begins-at, inclusive-same, kept-costly, least-same}
+use Rattle.cost_tree.proofs.Firsts.{line-same, lines-below, next-first, one-longer}
 use Rattle.cost_tree.proofs.Laws.{costed-count}
 use Rattle.cost_tree.proofs.Levels.{lines-levelled}
 use Rattle.cost_tree.proofs.Prefixes.{has_front-Decides}

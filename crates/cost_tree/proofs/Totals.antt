@@ -1,34 +1,6 @@
 -- Lemmas on nodes whose costs are summed up from the last to the first.
-use Rattle.std.proofs.Common.{
-  ◌≡◌,
-  ◌≢◌,
-  ℕ,
-  zero,
-  suc,
-  ◌+◌,
-  ◌-◌,
-  ◌<◌,
-  ◌≤◌,
-  inl,
-  inr,
-  Bool,
-  true,
-  if◌then◌else◌,
-  List,
-  [],
-  ◌∷◌,
-  length,
-  get_or,
-  set,
-  take,
-  Some,
-  refl,
-  sym,
-  ap,
-  ◌∙◌,
-  subst,
-  arith,
-}
+use Rattle.std.proofs.Common.{◌≡◌, ◌≢◌, ℕ, zero, suc, ◌+◌, ◌-◌, ◌<◌, ◌≤◌, inl, inr, Bool, true, if◌then◌else◌, List, []}
+use Rattle.std.proofs.Common.{◌∷◌, length, get_or, set, take, Some, refl, sym, ap, ◌∙◌, subst, arith}
 use Rattle.std.proofs.Math.Seq.{take-set-lt}
 use Rattle.std.specs.Prelude.{All, Contains, slice_get, sum_by}
 use Rattle.std.specs.Option.{option_map_or}
@@ -50,14 +22,8 @@ use Rattle.cost_tree.specs.TreeParts.{IsTree}
 use Rattle.cost_tree.specs.TreeState.{TreeState}
 use Rattle.cost_tree.proofs.Brothers.{children-next, children-none}
 use Rattle.cost_tree.proofs.ChildNodes.{sum-mapped, sum-same}
-use Rattle.cost_tree.proofs.Linking.{
-  children_from-end,
-  children_from-step,
-  children_of-only,
-  has_parent-at,
-  no_node,
-  ranged,
-}
+use Rattle.cost_tree.proofs.Linking.{children_from-end, children_from-step, children_of-only, has_parent-at, no_node}
+use Rattle.cost_tree.proofs.Linking.{ranged}
 use Rattle.cost_tree.proofs.Lists.{get-set_cases, get-set_other}
 use Rattle.cost_tree.proofs.NextSums.{next-whole}
 use Rattle.cost_tree.proofs.Prefixes.{has_front-Decides, is_front-Decides}

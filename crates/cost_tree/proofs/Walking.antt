@@ -1,31 +1,6 @@
 -- Lemmas on a walk over a tree and the lines that it has given.
-use Rattle.std.proofs.Common.{
-  ◌≡◌,
-  ℕ,
-  ◌+◌,
-  ◌<◌,
-  Bool,
-  true,
-  false,
-  cond,
-  not,
-  List,
-  [],
-  ◌∷◌,
-  ◌++◌,
-  length,
-  map,
-  filter,
-  reverse,
-  refl,
-  sym,
-  ap,
-  ◌∙◌,
-  subst,
-  append-nil,
-  Some,
-  arith,
-}
+use Rattle.std.proofs.Common.{◌≡◌, ℕ, ◌+◌, ◌<◌, Bool, true, false, cond, not, List, [], ◌∷◌, ◌++◌, length, map, filter}
+use Rattle.std.proofs.Common.{reverse, refl, sym, ap, ◌∙◌, subst, append-nil, Some, arith}
 use Rattle.std.specs.Prelude.{All, Contains}
 use Rattle.std.specs.List.{flat_map}
 use Rattle.std.proofs.lemmas.List.{map_push}
@@ -39,17 +14,8 @@ use Rattle.cost_tree.specs.Children.{children_of}
 use Rattle.cost_tree.specs.Costed.{Costed}
 use Rattle.cost_tree.specs.CostLines.{cost_lines}
 use Rattle.cost_tree.specs.Order.{by_cost}
-use Rattle.cost_tree.specs.Pendings.{
-  IsLeft,
-  IsPending,
-  gathered_line,
-  pending_alone,
-  pending_below,
-  pending_children,
-  pending_gathered,
-  pending_line,
-  pending_lines,
-}
+use Rattle.cost_tree.specs.Pendings.{IsLeft, IsPending, gathered_line, pending_alone, pending_below, pending_children}
+use Rattle.cost_tree.specs.Pendings.{pending_gathered, pending_line, pending_lines}
 use Rattle.cost_tree.specs.Shares.{cost_at, gathered_in, is_kept_at, is_small_at, kept_children, small_children}
 use Rattle.cost_tree.specs.TreeLines.{HasLines, IsLineOf, line_at}
 use Rattle.cost_tree.specs.TreeState.{TreeState}

@@ -1,33 +1,6 @@
 -- Lemmas on a walk over a tree: what still has no line, and how many steps that takes.
-use Rattle.std.proofs.Common.{
-  ◌≡◌,
-  ℕ,
-  zero,
-  suc,
-  ◌+◌,
-  ◌-◌,
-  ◌*◌,
-  ◌^◌,
-  ◌<◌,
-  ◌≤◌,
-  inl,
-  inr,
-  List,
-  [],
-  ◌∷◌,
-  ◌++◌,
-  length,
-  map,
-  filter,
-  reverse,
-  refl,
-  sym,
-  ap,
-  ◌∙◌,
-  subst,
-  arith,
-  append_assoc,
-}
+use Rattle.std.proofs.Common.{◌≡◌, ℕ, zero, suc, ◌+◌, ◌-◌, ◌*◌, ◌^◌, ◌<◌, ◌≤◌, inl, inr, List, [], ◌∷◌, ◌++◌, length}
+use Rattle.std.proofs.Common.{map, filter, reverse, refl, sym, ap, ◌∙◌, subst, arith, append_assoc}
 use Rattle.std.specs.Prelude.{All, nat_lt, sum_by}
 use Rattle.std.specs.List.{flat_map, range_with_len}
 use Rattle.std.proofs.lemmas.Bool.{cases_lt, cond-true, lt-ltb}
@@ -37,12 +10,8 @@ use Rattle.std.proofs.lemmas.List.Elements.{All-append, All-cons, All-filter, Al
 use Rattle.std.proofs.lemmas.List.Filters.{length-filter_both, sum_by-filter_both}
 use Rattle.std.proofs.lemmas.List.Folds.{flat_map-map}
 use Rattle.std.proofs.lemmas.List.FromFn.{length-range_with_len}
-use Rattle.std.proofs.lemmas.List.Sorted.{
-  All-permutation,
-  IsPermutation-reverse,
-  length_permutation,
-  sum_by-IsPermutation,
-}
+use Rattle.std.proofs.lemmas.List.Sorted.{All-permutation, IsPermutation-reverse, length_permutation}
+use Rattle.std.proofs.lemmas.List.Sorted.{sum_by-IsPermutation}
 use Rattle.std.proofs.lemmas.List.Sums.{sum_by-append, sum_by-cons}
 use Rattle.std.proofs.lemmas.Option.{get_or_from_slice_get, slice_get-get_or, slice_get_within}
 use Rattle.cost_tree.specs.declared.lines.Pending.{Pending}
@@ -51,45 +20,20 @@ use Rattle.cost_tree.specs.declared.node.CostNode.{CostNode}
 use Rattle.cost_tree.specs.declared.scale.Scale.{Scale}
 use Rattle.cost_tree.specs.Children.{children_of}
 use Rattle.cost_tree.specs.Costed.{Costed}
-use Rattle.cost_tree.specs.CostLines.{
-  FrontLine,
-  cost_lines,
-  cost_of,
-  front_line,
-  front_lines,
-  gathered_lines,
-  kept_fronts,
-  small_fronts,
-}
+use Rattle.cost_tree.specs.CostLines.{FrontLine, cost_lines, cost_of, front_line, front_lines, gathered_lines}
+use Rattle.cost_tree.specs.CostLines.{kept_fronts, small_fronts}
 use Rattle.cost_tree.specs.IsTreeOf.{IsTreeOf}
 use Rattle.cost_tree.specs.NextFronts.{longer_front, next_fronts, opens}
 use Rattle.cost_tree.specs.Order.{by_cost}
-use Rattle.cost_tree.specs.Pendings.{
-  IsLeft,
-  IsPending,
-  children_below,
-  gathered_line,
-  pending_below,
-  pending_children,
-  pending_gathered,
-  pending_line,
-  pending_lines,
-}
+use Rattle.cost_tree.specs.Pendings.{IsLeft, IsPending, children_below, gathered_line, pending_below, pending_children}
+use Rattle.cost_tree.specs.Pendings.{pending_gathered, pending_line, pending_lines}
 use Rattle.cost_tree.specs.Shares.{cost_at, gathered_in, is_kept_at, is_small_at, kept_children, small_children}
 use Rattle.cost_tree.specs.TreeLines.{HasLines, IsLineOf, front_at, line_at}
 use Rattle.cost_tree.specs.TreeState.{TreeState}
 use Rattle.cost_tree.proofs.Brothers.{children-next, children-none}
 use Rattle.cost_tree.proofs.Forests.{IsForest-tree}
-use Rattle.cost_tree.proofs.ChildNodes.{
-  IsChildOf,
-  children-are,
-  children-within,
-  cost-is,
-  kept-are,
-  small-are,
-  sum-mapped,
-  sum-same,
-}
+use Rattle.cost_tree.proofs.ChildNodes.{IsChildOf, children-are, children-within, cost-is, kept-are, small-are}
+use Rattle.cost_tree.proofs.ChildNodes.{sum-mapped, sum-same}
 use Rattle.cost_tree.proofs.NextSums.{next-whole}
 use Rattle.cost_tree.proofs.Orders.{by_cost-permutation}
 use Rattle.cost_tree.proofs.Sums.{inclusive-within}

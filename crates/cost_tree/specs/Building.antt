@@ -1,25 +1,6 @@
 -- What is kept of a tree while it grows along a shape.
-use Rattle.std.specs.Prelude.{
-  ◌≡◌,
-  ℕ,
-  ◌+◌,
-  ◌-◌,
-  ◌<◌,
-  ◌≤◌,
-  All,
-  List,
-  [],
-  ◌∷◌,
-  ◌++◌,
-  length,
-  map,
-  replicate,
-  take,
-  Some,
-  slice_get,
-  slice_index,
-  slice_set,
-}
+use Rattle.std.specs.Prelude.{◌≡◌, ℕ, ◌+◌, ◌-◌, ◌<◌, ◌≤◌, All, List, [], ◌∷◌, ◌++◌, length, map, replicate, take, Some}
+use Rattle.std.specs.Prelude.{slice_get, slice_index, slice_set}
 use Rattle.cost_tree.specs.declared.branches.Branches.{Branches}
 use Rattle.cost_tree.specs.declared.edge.Edge.{Edge}
 use Rattle.cost_tree.specs.declared.node.CostNode.{CostNode}

@@ -1,25 +1,6 @@
 -- The children of a node are the nodes that have it as their parent, by ascending number.
-use Rattle.std.specs.Prelude.{
-  ◌≡◌,
-  ◌≢◌,
-  ℕ,
-  ◌==◌,
-  ◌+◌,
-  ◌-◌,
-  ◌<◌,
-  ◌≤◌,
-  Bool,
-  false,
-  List,
-  [],
-  ◌∷◌,
-  length,
-  filter,
-  slice_get,
-  slice_index,
-  Some,
-  if◌then◌else◌,
-}
+use Rattle.std.specs.Prelude.{◌≡◌, ◌≢◌, ℕ, ◌==◌, ◌+◌, ◌-◌, ◌<◌, ◌≤◌, Bool, false, List, [], ◌∷◌, length, filter}
+use Rattle.std.specs.Prelude.{slice_get, slice_index, Some, if◌then◌else◌}
 use Rattle.std.specs.List.{range_with_len}
 use Rattle.std.specs.Option.{option_map_or}
 use Rattle.cost_tree.specs.declared.node.CostNode.{CostNode}

@@ -4,25 +4,8 @@
 -- least the threshold times the total. Those stand by descending cost, of equal ones by the least
 -- stack; the others stand together in one last line with their number and sum. A line says its
 -- level and how many lines of the next level belong to it.
-use Rattle.std.specs.Prelude.{
-  ℕ,
-  zero,
-  suc,
-  ◌+◌,
-  ◌-◌,
-  ◌*◌,
-  not,
-  nat_lt,
-  Bool,
-  List,
-  [],
-  ◌∷◌,
-  ◌++◌,
-  filter,
-  length,
-  slice_index_or,
-  sum_by,
-}
+use Rattle.std.specs.Prelude.{ℕ, zero, suc, ◌+◌, ◌-◌, ◌*◌, not, nat_lt, Bool, List, [], ◌∷◌, ◌++◌, filter, length}
+use Rattle.std.specs.Prelude.{slice_index_or, sum_by}
 use Rattle.std.specs.List.{flat_map}
 use Rattle.cost_tree.specs.declared.scale.Scale.{Scale}
 use Rattle.cost_tree.specs.Costed.{Costed}

@@ -1,26 +1,6 @@
 -- Lists of numbers that are cut, for private clauses.
-use Rattle.std.specs.Prelude.{
-  ◌≡◌,
-  ℕ,
-  ◌+◌,
-  ◌-◌,
-  ◌*◌,
-  ◌==◌,
-  ◌<◌,
-  ◌&&◌,
-  not,
-  min,
-  nat_lt,
-  if◌then◌else◌,
-  List,
-  [],
-  ◌∷◌,
-  Some,
-  length,
-  map,
-  slice_get,
-  take,
-}
+use Rattle.std.specs.Prelude.{◌≡◌, ℕ, ◌+◌, ◌-◌, ◌*◌, ◌==◌, ◌<◌, ◌&&◌, not, min, nat_lt, if◌then◌else◌, List, [], ◌∷◌}
+use Rattle.std.specs.Prelude.{Some, length, map, slice_get, take}
 use Rattle.std.specs.Str.{bytes_eq}
 use Rattle.cost_tree.specs.declared.cut.Cut.{Cut}
 use Rattle.cost_tree.specs.declared.scale.Scale.{Scale}

@@ -1,22 +1,7 @@
 -- What a tree that grows says of the stacks that it was given so far, and of the texts so far of
 -- the one that it is given.
-use Rattle.std.specs.Prelude.{
-  ◌≡◌,
-  ℕ,
-  ◌==◌,
-  ◌+◌,
-  ◌<◌,
-  ◌≤◌,
-  Bool,
-  List,
-  [],
-  length,
-  take,
-  Some,
-  slice_get,
-  sum_by,
-  if◌then◌else◌,
-}
+use Rattle.std.specs.Prelude.{◌≡◌, ℕ, ◌==◌, ◌+◌, ◌<◌, ◌≤◌, Bool, List, [], length, take, Some, slice_get, sum_by}
+use Rattle.std.specs.Prelude.{if◌then◌else◌}
 use Rattle.cost_tree.specs.declared.edge.Edge.{Edge}
 use Rattle.cost_tree.specs.declared.node.CostNode.{CostNode}
 use Rattle.cost_tree.specs.Costed.{Costed}

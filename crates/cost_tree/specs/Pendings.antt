@@ -1,21 +1,6 @@
 -- What of a tree still has no line, for private clauses.
-use Rattle.std.specs.Prelude.{
-  ◌≡◌,
-  ℕ,
-  ◌+◌,
-  ◌-◌,
-  ◌^◌,
-  ◌<◌,
-  if◌then◌else◌,
-  nat_lt,
-  List,
-  [],
-  ◌∷◌,
-  ◌++◌,
-  length,
-  map,
-  reverse,
-}
+use Rattle.std.specs.Prelude.{◌≡◌, ℕ, ◌+◌, ◌-◌, ◌^◌, ◌<◌, if◌then◌else◌, nat_lt, List, [], ◌∷◌, ◌++◌, length, map}
+use Rattle.std.specs.Prelude.{reverse}
 use Rattle.cost_tree.specs.declared.children.Child.{Child}
 use Rattle.cost_tree.specs.declared.children.Gathered as several
 use Rattle.cost_tree.specs.declared.line.CostLine.{CostLine}

@@ -1,28 +1,8 @@
 -- Lists that share their fronts, as nodes keep them: node 0 is the empty front, and each edge leads
 -- to a node more. A list of numbers ends at a node of a shape, which has a node for each front of
 -- its lists: node 0, and one for each edge.
-use Rattle.std.specs.Prelude.{
-  ◌≡◌,
-  ◌≢◌,
-  ℕ,
-  ◌+◌,
-  ◌^◌,
-  ◌<◌,
-  ◌≤◌,
-  ◌⊎◌,
-  List,
-  [],
-  ◌∷◌,
-  ◌++◌,
-  All,
-  Contains,
-  Some,
-  fold,
-  length,
-  map,
-  slice_get,
-  slice_index_or,
-}
+use Rattle.std.specs.Prelude.{◌≡◌, ◌≢◌, ℕ, ◌+◌, ◌^◌, ◌<◌, ◌≤◌, ◌⊎◌, List, [], ◌∷◌, ◌++◌, All, Contains, Some, fold}
+use Rattle.std.specs.Prelude.{length, map, slice_get, slice_index_or}
 use Rattle.cost_tree.specs.declared.edge.Edge.{Edge}
 
 -- the front that an edge adds: that of the node where it begins, and its number's element

@@ -1,28 +1,8 @@
 -- The lines of a list behind a front from which it goes on alone. The tail of a list that is cut at
 -- a line's front: a line for each further text that fronts may have, with the cost of that line,
 -- and one line below each but the last.
-use Rattle.std.specs.Prelude.{
-  ℕ,
-  ◌+◌,
-  ◌-◌,
-  ◌==◌,
-  ◌&&◌,
-  nat_lt,
-  false,
-  Bool,
-  if◌then◌else◌,
-  List,
-  [],
-  ◌∷◌,
-  length,
-  map,
-  Option,
-  None,
-  Some,
-  slice_get,
-  slice_index_or,
-  take,
-}
+use Rattle.std.specs.Prelude.{ℕ, ◌+◌, ◌-◌, ◌==◌, ◌&&◌, nat_lt, false, Bool, if◌then◌else◌, List, [], ◌∷◌, length, map}
+use Rattle.std.specs.Prelude.{Option, None, Some, slice_get, slice_index_or, take}
 use Rattle.std.specs.List.{range_with_len}
 use Rattle.std.specs.Option.{option_map_or}
 use Rattle.cost_tree.specs.Costed.{Costed}

@@ -1,22 +1,6 @@
 -- Lists of numbers as they are told, step by step, for private clauses.
-use Rattle.std.specs.Prelude.{
-  ◌≡◌,
-  ◌≢◌,
-  ℕ,
-  ◌-◌,
-  ◌^◌,
-  ◌<◌,
-  List,
-  [],
-  ◌∷◌,
-  ◌++◌,
-  fold,
-  length,
-  take,
-  Some,
-  slice_get,
-  slice_index_or,
-}
+use Rattle.std.specs.Prelude.{◌≡◌, ◌≢◌, ℕ, ◌-◌, ◌^◌, ◌<◌, List, [], ◌∷◌, ◌++◌, fold, length, take, Some, slice_get}
+use Rattle.std.specs.Prelude.{slice_index_or}
 use Rattle.cost_tree.specs.declared.list_step.ListStep.{ListStep}
 use Rattle.cost_tree.specs.declared.list_step.ListStep.TheVariants.{Begin, Push}
 use Rattle.cost_tree.specs.GrowingLists.{caller_list}

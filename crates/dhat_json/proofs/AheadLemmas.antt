@@ -1,25 +1,6 @@
 -- What stands next, by the first token.
-use Rattle.std.proofs.Common.{
-  ◌≡◌,
-  ℕ,
-  ◌-◌,
-  ◌<◌,
-  List,
-  [],
-  ◌∷◌,
-  length,
-  Bool,
-  true,
-  false,
-  cond,
-  Option,
-  Some,
-  None,
-  option_map,
-  refl,
-  ap,
-  ◌∙◌,
-}
+use Rattle.std.proofs.Common.{◌≡◌, ℕ, ◌-◌, ◌<◌, List, [], ◌∷◌, length, Bool, true, false, cond, Option, Some, None}
+use Rattle.std.proofs.Common.{option_map, refl, ap, ◌∙◌}
 use Rattle.std.specs.Prelude.{is_some}
 use Rattle.std.specs.Borrow.{Bor}
 use Rattle.std.specs.Global.{Vec}

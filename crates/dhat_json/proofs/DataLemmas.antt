@@ -1,28 +1,7 @@
 -- A JSON value has data where no number in it is too large, and what stands at a key of the data is the data of what
 -- stands there in the value.
-use Rattle.std.proofs.Common.{
-  ◌≡◌,
-  ℕ,
-  List,
-  [],
-  ◌∷◌,
-  map,
-  Bool,
-  true,
-  false,
-  cond,
-  Option,
-  Some,
-  None,
-  option_map,
-  option_and_then,
-  bytes_eq,
-  true≢false,
-  refl,
-  sym,
-  ap,
-  ◌∙◌,
-}
+use Rattle.std.proofs.Common.{◌≡◌, ℕ, List, [], ◌∷◌, map, Bool, true, false, cond, Option, Some, None, option_map}
+use Rattle.std.proofs.Common.{option_and_then, bytes_eq, true≢false, refl, sym, ap, ◌∙◌}
 use Rattle.std.specs.Prelude.{◌&&◌, is_some}
 use Rattle.std.proofs.lemmas.Slice.Eq.{bytes_eq-Decides}
 use Rattle.std.specs.Borrow.{Bor}
@@ -38,16 +17,8 @@ use Rattle.serde_json.specs.Find.{get, get_member, as_str, as_bool}
 use Rattle.serde_json.specs.Read.{of_json, of_items, of_members, number_of, read}
 use Rattle.serde_json.proofs.Views.{get_member-put, get_member-put_other}
 use Rattle.dhat_json.specs.Kinds.{list_of}
-use Rattle.dhat_json.specs.DataOf.{
-  number_data,
-  json_data,
-  items_data,
-  members_data,
-  data_of,
-  has_data,
-  items_have_data,
-  members_have_data,
-}
+use Rattle.dhat_json.specs.DataOf.{number_data, json_data, items_data, members_data, data_of, has_data, items_have_data}
+use Rattle.dhat_json.specs.DataOf.{members_have_data}
 
 -- ---- the data
 

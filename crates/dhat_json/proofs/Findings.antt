@@ -1,15 +1,8 @@
 -- The first of what checks find.
 use Rattle.std.proofs.Common.{◌≡◌, List, [], ◌∷◌, ◌++◌, Some, None, Result, Ok, Err, refl, subst}
 use Rattle.dhat_json.specs.declared.fault.DhatFault.{DhatFault}
-use Rattle.dhat_json.specs.declared.fault.DhatFault.TheVariants.{
-  NotJson,
-  WrongFileVersion,
-  MissingKey,
-  WrongKind,
-  FrameOutOfTable,
-  TooMany,
-  NoMemory,
-}
+use Rattle.dhat_json.specs.declared.fault.DhatFault.TheVariants.{NotJson, WrongFileVersion, MissingKey, WrongKind}
+use Rattle.dhat_json.specs.declared.fault.DhatFault.TheVariants.{FrameOutOfTable, TooMany, NoMemory}
 use Rattle.dhat_json.specs.DhatFault.{Finding, first_of}
 use Rattle.dhat_json.specs.Reads.{Reads, UnlessNoMemory}
 

@@ -1,35 +1,6 @@
 -- Points that come one by one.
-use Rattle.std.proofs.Common.{
-  ◌≡◌,
-  ◌≢◌,
-  ℕ,
-  suc,
-  ◌+◌,
-  ◌-◌,
-  ◌^◌,
-  ◌<◌,
-  ◌≤◌,
-  List,
-  [],
-  ◌∷◌,
-  ◌++◌,
-  length,
-  map,
-  All,
-  Bool,
-  true,
-  false,
-  ltb,
-  Option,
-  Some,
-  None,
-  refl,
-  sym,
-  ap,
-  ◌∙◌,
-  subst,
-  arith,
-}
+use Rattle.std.proofs.Common.{◌≡◌, ◌≢◌, ℕ, suc, ◌+◌, ◌-◌, ◌^◌, ◌<◌, ◌≤◌, List, [], ◌∷◌, ◌++◌, length, map, All, Bool}
+use Rattle.std.proofs.Common.{true, false, ltb, Option, Some, None, refl, sym, ap, ◌∙◌, subst, arith}
 use Rattle.std.specs.Prelude.{is_some, unwrap_or}
 use Rattle.std.proofs.lemmas.Bool.{lt-ltb, ltb-false, ltb-true}
 use Rattle.std.proofs.lemmas.List.{length-append, map-append}
@@ -42,18 +13,8 @@ use Rattle.dhat_json.specs.declared.gathered.Gathered.{Gathered}
 use Rattle.dhat_json.specs.declared.key.Key.TheVariants.{Fs, Tb, Tbk}
 use Rattle.dhat_json.specs.declared.profile.Point.{Point}
 use Rattle.dhat_json.specs.declared.shape.Shape.{Shape}
-use Rattle.dhat_json.specs.DhatFault.{
-  Finding,
-  access_findings,
-  first_of,
-  frame_finding,
-  frame_value,
-  frames_findings,
-  life_findings,
-  pair_findings,
-  point_findings,
-  points_findings,
-}
+use Rattle.dhat_json.specs.DhatFault.{Finding, access_findings, first_of, frame_finding, frame_value, frames_findings}
+use Rattle.dhat_json.specs.DhatFault.{life_findings, pair_findings, point_findings, points_findings}
 use Rattle.dhat_json.specs.Gathered.{FaultIs, HasGathered, shape_findings}
 use Rattle.dhat_json.specs.Kinds.{as_whole, list_of}
 use Rattle.dhat_json.specs.ProfileIn.{list_at, point_in, whole_in}

@@ -10,15 +10,8 @@ use Rattle.dhat_json.specs.declared.profile.Life.{Life}
 use Rattle.dhat_json.specs.declared.profile.Access.{Access}
 use Rattle.dhat_json.specs.declared.profile.Point.{Point}
 use Rattle.dhat_json.specs.declared.profile.Dhat.{Dhat}
-use Rattle.dhat_json.specs.DhatValue.{
-  whole,
-  optional,
-  optional_text,
-  optional_whole,
-  point_members,
-  point_value,
-  dhat_value,
-}
+use Rattle.dhat_json.specs.DhatValue.{whole, optional, optional_text, optional_whole, point_members, point_value}
+use Rattle.dhat_json.specs.DhatValue.{dhat_value}
 use Rattle.dhat_json.proofs.ReadAgain.{Above, InOrder, ItemsInOrder, MembersInOrder}
 use Rattle.dhat_json.proofs.RoundTrip.{verb_on, tu_on, tg_on, cmd_on, bu_on, bsu_on, bksu_on}
 

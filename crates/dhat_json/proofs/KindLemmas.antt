@@ -1,60 +1,19 @@
 -- What stands at a key of which nothing was found, and what is found at a key where the right thing stands.
-use Rattle.std.proofs.Common.{
-  ◌≡◌,
-  ℕ,
-  ◌<◌,
-  List,
-  [],
-  ◌∷◌,
-  ◌++◌,
-  map,
-  All,
-  Bool,
-  true,
-  false,
-  cond,
-  Option,
-  Some,
-  None,
-  refl,
-  sym,
-  ap,
-  ltb,
-}
+use Rattle.std.proofs.Common.{◌≡◌, ℕ, ◌<◌, List, [], ◌∷◌, ◌++◌, map, All, Bool, true, false, cond, Option, Some, None}
+use Rattle.std.proofs.Common.{refl, sym, ap, ltb}
 use Rattle.std.specs.Prelude.{IsSome, IfSome, ◌==◌, is_some, unwrap_or}
 use Rattle.std.specs.Option.{option_and_then}
 use Rattle.std.proofs.lemmas.Bool.{eqb-true, ltb-true, lt-ltb}
 use Rattle.std.proofs.lemmas.List.Elements.{All-nil, All-cons, All-head, All-tail}
-use Rattle.serde_json.specs.Data.{
-  Data,
-  null,
-  boolean,
-  number,
-  string,
-  array,
-  object,
-  unsigned,
-  negative,
-  float,
-  Items,
-  no_items,
-  item,
-}
+use Rattle.serde_json.specs.Data.{Data, null, boolean, number, string, array, object, unsigned, negative, float, Items}
+use Rattle.serde_json.specs.Data.{no_items, item}
 use Rattle.serde_json.specs.Find.{as_str, as_bool, as_object, as_array}
 use Rattle.serde_json.specs.View.{items_of}
 use Rattle.dhat_json.specs.declared.fault.DhatFault.TheVariants.{NotJson, WrongFileVersion, WrongKind, FrameOutOfTable}
 use Rattle.dhat_json.specs.declared.key.Key.{Key}
 use Rattle.dhat_json.specs.declared.key.Key.TheVariants.{DhatFileVersion, Ftbl}
-use Rattle.dhat_json.specs.DhatFault.{
-  Finding,
-  first_of,
-  other_kind,
-  needed_value,
-  optional_value,
-  frame_finding,
-  no_object,
-  version_value,
-}
+use Rattle.dhat_json.specs.DhatFault.{Finding, first_of, other_kind, needed_value, optional_value, frame_finding}
+use Rattle.dhat_json.specs.DhatFault.{no_object, version_value}
 use Rattle.dhat_json.specs.DhatValue.{whole}
 use Rattle.dhat_json.specs.IsDhat.{IsOptional}
 use Rattle.dhat_json.specs.Kinds.{as_whole, as_list, list_of}

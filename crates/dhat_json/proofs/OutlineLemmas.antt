@@ -1,25 +1,6 @@
 -- What is asked of the outline of a document is what is asked of the document.
-use Rattle.std.proofs.Common.{
-  ◌≡◌,
-  ℕ,
-  List,
-  [],
-  ◌∷◌,
-  ◌++◌,
-  Bool,
-  true,
-  false,
-  map,
-  Option,
-  Some,
-  None,
-  refl,
-  sym,
-  ap,
-  ◌∙◌,
-  bytes_eq,
-  true≢false,
-}
+use Rattle.std.proofs.Common.{◌≡◌, ℕ, List, [], ◌∷◌, ◌++◌, Bool, true, false, map, Option, Some, None, refl, sym, ap}
+use Rattle.std.proofs.Common.{◌∙◌, bytes_eq, true≢false}
 use Rattle.std.specs.Prelude.{codes, is_some, unwrap_or}
 use Rattle.std.specs.Borrow.{Bor}
 use Rattle.std.specs.declared.alloc.Global.{Global}
@@ -31,38 +12,12 @@ use Rattle.serde_json.specs.Data.{Data, null, boolean, number, string, array, ob
 use Rattle.serde_json.specs.Find.{get, get_member, as_str, as_bool}
 use Rattle.serde_json.proofs.Views.{get_member-put, get_member-put_other}
 use Rattle.dhat_json.specs.declared.key.Key.{Key}
-use Rattle.dhat_json.specs.declared.key.Key.TheVariants.{
-  DhatFileVersion,
-  Mode,
-  Verb,
-  Bklt,
-  Bkacc,
-  Bu,
-  Bsu,
-  Bksu,
-  Tu,
-  Mtu,
-  Tuth,
-  Cmd,
-  Pid,
-  Te,
-  Tg,
-  Ftbl,
-  Pps,
-}
+use Rattle.dhat_json.specs.declared.key.Key.TheVariants.{DhatFileVersion, Mode, Verb, Bklt, Bkacc, Bu, Bsu, Bksu, Tu}
+use Rattle.dhat_json.specs.declared.key.Key.TheVariants.{Mtu, Tuth, Cmd, Pid, Te, Tg, Ftbl, Pps}
 use Rattle.dhat_json.specs.declared.parts.Front.{Front}
 use Rattle.dhat_json.specs.DataOf.{data_of, members_data}
-use Rattle.dhat_json.specs.DhatFault.{
-  Finding,
-  needed_value,
-  optional_value,
-  version_value,
-  needed,
-  allowed,
-  no_object,
-  other_kind,
-  other_version,
-}
+use Rattle.dhat_json.specs.DhatFault.{Finding, needed_value, optional_value, version_value, needed, allowed, no_object}
+use Rattle.dhat_json.specs.DhatFault.{other_kind, other_version}
 use Rattle.dhat_json.specs.Front.{front_findings, front_in}
 use Rattle.dhat_json.specs.KeyName.{key_name}
 use Rattle.dhat_json.specs.Kinds.{as_whole, as_list}

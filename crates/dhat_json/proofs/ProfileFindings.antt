@@ -1,34 +1,6 @@
 -- The first fault of a profile, part by part.
-use Rattle.std.proofs.Common.{
-  ◌≡◌,
-  ◌≢◌,
-  ℕ,
-  ◌-◌,
-  ◌^◌,
-  ◌<◌,
-  List,
-  [],
-  ◌∷◌,
-  ◌++◌,
-  length,
-  map,
-  Bool,
-  true,
-  false,
-  ltb,
-  Some,
-  None,
-  Ok,
-  Err,
-  refl,
-  sym,
-  ap,
-  ap₂,
-  ◌∙◌,
-  subst,
-  arith,
-  append_assoc,
-}
+use Rattle.std.proofs.Common.{◌≡◌, ◌≢◌, ℕ, ◌-◌, ◌^◌, ◌<◌, List, [], ◌∷◌, ◌++◌, length, map, Bool, true, false, ltb}
+use Rattle.std.proofs.Common.{Some, None, Ok, Err, refl, sym, ap, ap₂, ◌∙◌, subst, arith, append_assoc}
 use Rattle.std.proofs.lemmas.List.{length-map}
 use Rattle.std.proofs.lemmas.Bool.{lt-ltb, ltb-true, ltb-false}
 use Rattle.serde_json.specs.Data.{Data}
@@ -41,18 +13,8 @@ use Rattle.dhat_json.specs.declared.parts.Head.{Head}
 use Rattle.dhat_json.specs.declared.parts.Units.{Units}
 use Rattle.dhat_json.specs.declared.parts.Run.{Run}
 use Rattle.dhat_json.specs.declared.shape.Shape.{Shape}
-use Rattle.dhat_json.specs.DhatFault.{
-  Finding,
-  first_of,
-  needed,
-  head_findings,
-  unit_findings,
-  run_findings,
-  table_findings,
-  too_many,
-  all_points_findings,
-  dhat_fault,
-}
+use Rattle.dhat_json.specs.DhatFault.{Finding, first_of, needed, head_findings, unit_findings, run_findings}
+use Rattle.dhat_json.specs.DhatFault.{table_findings, too_many, all_points_findings, dhat_fault}
 use Rattle.dhat_json.specs.Document.{dhat_in, unless_fault}
 use Rattle.dhat_json.specs.Front.{IsFront, front_findings, front_in, shape_in}
 use Rattle.dhat_json.specs.Gathered.{FaultIs, HasGathered, shape_findings}

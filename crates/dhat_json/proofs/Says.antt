@@ -1,32 +1,6 @@
 -- A value of which no check found anything says the profile that is read from it.
-use Rattle.std.proofs.Common.{
-  ◌≡◌,
-  ℕ,
-  suc,
-  ◌-◌,
-  ◌^◌,
-  ◌<◌,
-  List,
-  [],
-  ◌∷◌,
-  ◌++◌,
-  length,
-  map,
-  Bool,
-  true,
-  false,
-  cond,
-  Option,
-  Some,
-  None,
-  Ok,
-  refl,
-  sym,
-  ap,
-  ◌∙◌,
-  subst,
-  ltb,
-}
+use Rattle.std.proofs.Common.{◌≡◌, ℕ, suc, ◌-◌, ◌^◌, ◌<◌, List, [], ◌∷◌, ◌++◌, length, map, Bool, true, false, cond}
+use Rattle.std.proofs.Common.{Option, Some, None, Ok, refl, sym, ap, ◌∙◌, subst, ltb}
 use Rattle.std.specs.List.{AllZip}
 use Rattle.std.proofs.lemmas.Bool.{ltb-true}
 use Rattle.std.proofs.lemmas.List.{length-map}
@@ -35,77 +9,20 @@ use Rattle.serde_json.specs.Find.{as_object}
 use Rattle.serde_json.specs.View.{items_of}
 use Rattle.dhat_json.specs.declared.fault.DhatFault.{DhatFault}
 use Rattle.dhat_json.specs.declared.fault.DhatFault.TheVariants.{TooMany}
-use Rattle.dhat_json.specs.declared.key.Key.TheVariants.{
-  Mode,
-  Verb,
-  Bklt,
-  Bkacc,
-  Bu,
-  Bsu,
-  Bksu,
-  Tu,
-  Mtu,
-  Tuth,
-  Cmd,
-  Pid,
-  Te,
-  Tg,
-  Ftbl,
-  Pps,
-  Tb,
-  Tbk,
-  Tl,
-  Mb,
-  Mbk,
-  Gb,
-  Gbk,
-  Eb,
-  Ebk,
-  Rb,
-  Wb,
-  Acc,
-  Fs,
-}
+use Rattle.dhat_json.specs.declared.key.Key.TheVariants.{Mode, Verb, Bklt, Bkacc, Bu, Bsu, Bksu, Tu, Mtu, Tuth, Cmd}
+use Rattle.dhat_json.specs.declared.key.Key.TheVariants.{Pid, Te, Tg, Ftbl, Pps, Tb, Tbk, Tl, Mb, Mbk, Gb, Gbk, Eb, Ebk}
+use Rattle.dhat_json.specs.declared.key.Key.TheVariants.{Rb, Wb, Acc, Fs}
 use Rattle.dhat_json.specs.declared.profile.Dhat.{Dhat}
-use Rattle.dhat_json.specs.DhatFault.{
-  Finding,
-  life_findings,
-  access_findings,
-  pair_findings,
-  frames_findings,
-  point_findings,
-  points_findings,
-  head_findings,
-  unit_findings,
-  run_findings,
-  table_findings,
-  all_points_findings,
-  dhat_findings,
-  dhat_fault,
-}
+use Rattle.dhat_json.specs.DhatFault.{Finding, life_findings, access_findings, pair_findings, frames_findings}
+use Rattle.dhat_json.specs.DhatFault.{point_findings, points_findings, head_findings, unit_findings, run_findings}
+use Rattle.dhat_json.specs.DhatFault.{table_findings, all_points_findings, dhat_findings, dhat_fault}
 use Rattle.dhat_json.specs.Document.{dhat_in, unless_fault}
 use Rattle.dhat_json.specs.IsDhat.{SaysLife, SaysAccess, IsPart, is_point, is_dhat}
 use Rattle.dhat_json.specs.ProfileIn.{text_in, list_at, flag_at, life_in, access_in, part_in, point_in, profile_in}
 use Rattle.dhat_json.proofs.ProfileFindings.{units_on, run_on, table_on}
-use Rattle.dhat_json.proofs.KindLemmas.{
-  AllNone,
-  none_first,
-  none_left,
-  none_right,
-  text_stands,
-  flag_stands,
-  whole_stands,
-  list_stands,
-  optional_text_stands,
-  optional_whole_stands,
-  kind_is,
-  texts_stand,
-  frames_stand,
-  frames_below,
-  acc_is,
-  kind_is_object,
-  version_is,
-}
+use Rattle.dhat_json.proofs.KindLemmas.{AllNone, none_first, none_left, none_right, text_stands, flag_stands}
+use Rattle.dhat_json.proofs.KindLemmas.{whole_stands, list_stands, optional_text_stands, optional_whole_stands, kind_is}
+use Rattle.dhat_json.proofs.KindLemmas.{texts_stand, frames_stand, frames_below, acc_is, kind_is_object, version_is}
 
 life_says : (bklt : Bool) (point : ℕ) (d : Data) → AllNone (life_findings bklt point d)
     → IsPart (SaysLife d) bklt (part_in bklt (life_in d))

@@ -1,46 +1,11 @@
 -- A document gone through member by member.
-use Rattle.std.proofs.Common.{
-  ◌≡◌,
-  ℕ,
-  ◌-◌,
-  List,
-  [],
-  ◌∷◌,
-  ◌++◌,
-  length,
-  codes,
-  Bool,
-  true,
-  false,
-  Option,
-  Some,
-  None,
-  Err,
-  option_map,
-  option_and_then,
-  refl,
-  sym,
-  ap,
-  ◌∙◌,
-  subst,
-  arith,
-}
+use Rattle.std.proofs.Common.{◌≡◌, ℕ, ◌-◌, List, [], ◌∷◌, ◌++◌, length, codes, Bool, true, false, Option, Some, None}
+use Rattle.std.proofs.Common.{Err, option_map, option_and_then, refl, sym, ap, ◌∙◌, subst, arith}
 use Rattle.std.specs.Prelude.{IfSome, is_some, unwrap_or}
 use Rattle.std.specs.Borrow.{Bor}
 use Rattle.std.specs.declared.alloc.Global.{Global}
-use Rattle.json.specs.Token.{
-  Token,
-  begin_array,
-  begin_object,
-  end_array,
-  end_object,
-  key,
-  string,
-  number,
-  boolean,
-  null,
-  bad,
-}
+use Rattle.json.specs.Token.{Token, begin_array, begin_object, end_array, end_object, key, string, number, boolean}
+use Rattle.json.specs.Token.{null, bad}
 use Rattle.json.specs.Lex.{tokens}
 use Rattle.json.specs.Json as json
 use Rattle.json.specs.Json.{Json, parse_map, value}

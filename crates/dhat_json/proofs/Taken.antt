@@ -1,31 +1,6 @@
 -- Where a value says a profile, no check finds anything, and that profile is read.
-use Rattle.std.proofs.Common.{
-  ◌≡◌,
-  ℕ,
-  suc,
-  ◌-◌,
-  ◌^◌,
-  ◌<◌,
-  List,
-  [],
-  ◌∷◌,
-  length,
-  map,
-  All,
-  Bool,
-  true,
-  false,
-  cond,
-  Option,
-  Some,
-  None,
-  Ok,
-  refl,
-  sym,
-  ap,
-  ◌∙◌,
-  subst,
-}
+use Rattle.std.proofs.Common.{◌≡◌, ℕ, suc, ◌-◌, ◌^◌, ◌<◌, List, [], ◌∷◌, length, map, All, Bool, true, false, cond}
+use Rattle.std.proofs.Common.{Option, Some, None, Ok, refl, sym, ap, ◌∙◌, subst}
 use Rattle.std.specs.Prelude.{IsSome, IfSome, is_some, unwrap_or}
 use Rattle.std.specs.Option.{option_map, option_and_then}
 use Rattle.std.specs.List.{AllZip}
@@ -37,92 +12,28 @@ use Rattle.serde_json.specs.Find.{as_object, as_array, as_str, as_bool}
 use Rattle.serde_json.specs.View.{items_of}
 use Rattle.dhat_json.specs.declared.fault.DhatFault.TheVariants.{WrongKind}
 use Rattle.dhat_json.specs.declared.key.Key.{Key}
-use Rattle.dhat_json.specs.declared.key.Key.TheVariants.{
-  DhatFileVersion,
-  Mode,
-  Verb,
-  Bklt,
-  Bkacc,
-  Bu,
-  Bsu,
-  Bksu,
-  Tu,
-  Mtu,
-  Tuth,
-  Cmd,
-  Pid,
-  Te,
-  Tg,
-  Ftbl,
-  Pps,
-  Tb,
-  Tbk,
-  Tl,
-  Mb,
-  Mbk,
-  Gb,
-  Gbk,
-  Eb,
-  Ebk,
-  Rb,
-  Wb,
-  Acc,
-  Fs,
-}
+use Rattle.dhat_json.specs.declared.key.Key.TheVariants.{DhatFileVersion, Mode, Verb, Bklt, Bkacc, Bu, Bsu, Bksu, Tu}
+use Rattle.dhat_json.specs.declared.key.Key.TheVariants.{Mtu, Tuth, Cmd, Pid, Te, Tg, Ftbl, Pps, Tb, Tbk, Tl, Mb, Mbk}
+use Rattle.dhat_json.specs.declared.key.Key.TheVariants.{Gb, Gbk, Eb, Ebk, Rb, Wb, Acc, Fs}
 use Rattle.dhat_json.specs.declared.profile.Life.{Life}
 use Rattle.dhat_json.specs.declared.profile.Access.{Access}
 use Rattle.dhat_json.specs.declared.profile.Point.{Point}
 use Rattle.dhat_json.specs.declared.profile.Dhat.{Dhat}
-use Rattle.dhat_json.specs.DhatFault.{
-  Finding,
-  needed_value,
-  optional_value,
-  other_kind,
-  version_value,
-  no_object,
-  life_findings,
-  access_findings,
-  pair_findings,
-  frames_findings,
-  frame_finding,
-  point_findings,
-  points_findings,
-  head_findings,
-  unit_findings,
-  run_findings,
-  table_findings,
-  all_points_findings,
-  listed_points_findings,
-  dhat_findings,
-  dhat_fault,
-  too_many,
-}
+use Rattle.dhat_json.specs.DhatFault.{Finding, needed_value, optional_value, other_kind, version_value, no_object}
+use Rattle.dhat_json.specs.DhatFault.{life_findings, access_findings, pair_findings, frames_findings, frame_finding}
+use Rattle.dhat_json.specs.DhatFault.{point_findings, points_findings, head_findings, unit_findings, run_findings}
+use Rattle.dhat_json.specs.DhatFault.{table_findings, all_points_findings, listed_points_findings, dhat_findings}
+use Rattle.dhat_json.specs.DhatFault.{dhat_fault, too_many}
 use Rattle.dhat_json.specs.DhatValue.{whole}
 use Rattle.dhat_json.specs.Document.{dhat_in, unless_fault}
 use Rattle.dhat_json.specs.IsDhat.{IsOptional, SaysLife, SaysAccess, IsPart, is_point, is_dhat}
 use Rattle.dhat_json.specs.IsSound.{IsSoundPoint, IsSound}
 use Rattle.dhat_json.specs.Kinds.{as_whole, as_list, list_of}
-use Rattle.dhat_json.specs.ProfileIn.{
-  text_in,
-  whole_in,
-  list_at,
-  flag_at,
-  life_in,
-  access_in,
-  part_in,
-  point_in,
-  profile_in,
-}
+use Rattle.dhat_json.specs.ProfileIn.{text_in, whole_in, list_at, flag_at, life_in, access_in, part_in, point_in}
+use Rattle.dhat_json.specs.ProfileIn.{profile_in}
 use Rattle.dhat_json.proofs.ProfileFindings.{units_on, run_on, table_on}
-use Rattle.dhat_json.proofs.KindLemmas.{
-  AllNone,
-  first_none,
-  none_both,
-  texts_found,
-  texts_again,
-  frames_found,
-  frames_again,
-}
+use Rattle.dhat_json.proofs.KindLemmas.{AllNone, first_none, none_both, texts_found, texts_again, frames_found}
+use Rattle.dhat_json.proofs.KindLemmas.{frames_again}
 use Rattle.dhat_json.proofs.ValueLists.{list_of_items}
 
 -- ---- single keys

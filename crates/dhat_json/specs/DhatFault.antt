@@ -1,71 +1,16 @@
 -- What each check finds stands in a list in the order of the checks, and the fault of a value is
 -- the first that was found.
-use Rattle.std.specs.Prelude.{
-  ℕ,
-  suc,
-  ◌-◌,
-  ◌^◌,
-  ◌==◌,
-  nat_lt,
-  List,
-  [],
-  ◌∷◌,
-  ◌++◌,
-  length,
-  map,
-  Bool,
-  true,
-  false,
-  if◌then◌else◌,
-  Option,
-  Some,
-  None,
-  is_some,
-}
+use Rattle.std.specs.Prelude.{ℕ, suc, ◌-◌, ◌^◌, ◌==◌, nat_lt, List, [], ◌∷◌, ◌++◌, length, map, Bool, true, false}
+use Rattle.std.specs.Prelude.{if◌then◌else◌, Option, Some, None, is_some}
 use Rattle.serde_json.specs.Data.{Data}
 use Rattle.serde_json.specs.Find.{get, as_str, as_bool, as_object}
 use Rattle.dhat_json.specs.declared.fault.DhatFault.{DhatFault}
-use Rattle.dhat_json.specs.declared.fault.DhatFault.TheVariants.{
-  NotJson,
-  WrongFileVersion,
-  MissingKey,
-  WrongKind,
-  FrameOutOfTable,
-  TooMany,
-}
+use Rattle.dhat_json.specs.declared.fault.DhatFault.TheVariants.{NotJson, WrongFileVersion, MissingKey, WrongKind}
+use Rattle.dhat_json.specs.declared.fault.DhatFault.TheVariants.{FrameOutOfTable, TooMany}
 use Rattle.dhat_json.specs.declared.key.Key.{Key}
-use Rattle.dhat_json.specs.declared.key.Key.TheVariants.{
-  DhatFileVersion,
-  Mode,
-  Verb,
-  Bklt,
-  Bkacc,
-  Bu,
-  Bsu,
-  Bksu,
-  Tu,
-  Mtu,
-  Tuth,
-  Cmd,
-  Pid,
-  Te,
-  Tg,
-  Ftbl,
-  Pps,
-  Tb,
-  Tbk,
-  Tl,
-  Mb,
-  Mbk,
-  Gb,
-  Gbk,
-  Eb,
-  Ebk,
-  Rb,
-  Wb,
-  Acc,
-  Fs,
-}
+use Rattle.dhat_json.specs.declared.key.Key.TheVariants.{DhatFileVersion, Mode, Verb, Bklt, Bkacc, Bu, Bsu, Bksu, Tu}
+use Rattle.dhat_json.specs.declared.key.Key.TheVariants.{Mtu, Tuth, Cmd, Pid, Te, Tg, Ftbl, Pps, Tb, Tbk, Tl, Mb, Mbk}
+use Rattle.dhat_json.specs.declared.key.Key.TheVariants.{Gb, Gbk, Eb, Ebk, Rb, Wb, Acc, Fs}
 use Rattle.dhat_json.specs.KeyName.{key_name}
 use Rattle.dhat_json.specs.Kinds.{as_whole, as_list}
 use Rattle.dhat_json.specs.ProfileIn.{list_at, flag_at}

@@ -2,15 +2,8 @@
 -- what is told of it: its point, its key and its frame.
 use Rattle.std.specs.Prelude.{ℕ, List, [], ◌++◌, codes, decimal, Option, Some, None}
 use Rattle.dhat_json.specs.declared.fault.DhatFault.{DhatFault}
-use Rattle.dhat_json.specs.declared.fault.DhatFault.TheVariants.{
-  NotJson,
-  WrongFileVersion,
-  MissingKey,
-  WrongKind,
-  FrameOutOfTable,
-  TooMany,
-  NoMemory,
-}
+use Rattle.dhat_json.specs.declared.fault.DhatFault.TheVariants.{NotJson, WrongFileVersion, MissingKey, WrongKind}
+use Rattle.dhat_json.specs.declared.fault.DhatFault.TheVariants.{FrameOutOfTable, TooMany, NoMemory}
 use Rattle.dhat_json.specs.declared.key.Key.{Key}
 use Rattle.dhat_json.specs.KeyName.{key_name}
 

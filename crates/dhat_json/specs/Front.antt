@@ -7,15 +7,8 @@ use Rattle.dhat_json.specs.declared.gathered.Gathered.{Gathered}
 use Rattle.dhat_json.specs.declared.key.Key.TheVariants.{Bklt, Bkacc, Ftbl, Pps}
 use Rattle.dhat_json.specs.declared.parts.Front.{Front}
 use Rattle.dhat_json.specs.declared.shape.Shape.{Shape}
-use Rattle.dhat_json.specs.DhatFault.{
-  Finding,
-  first_of,
-  head_findings,
-  needed,
-  run_findings,
-  table_findings,
-  unit_findings,
-}
+use Rattle.dhat_json.specs.DhatFault.{Finding, first_of, head_findings, needed, run_findings, table_findings}
+use Rattle.dhat_json.specs.DhatFault.{unit_findings}
 use Rattle.dhat_json.specs.Gathered.{HasGathered}
 use Rattle.dhat_json.specs.Kinds.{as_list}
 use Rattle.dhat_json.specs.Parts.{HasBlockTexts, HasTimeTexts, head_in, run_in, units_in}

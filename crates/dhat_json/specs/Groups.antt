@@ -4,16 +4,8 @@ use Rattle.serde_json.specs.Data.{boolean, string, array, Members, member}
 use Rattle.serde_json.specs.View.{items_of}
 use Rattle.dhat_json.specs.declared.profile.Point.{Point}
 use Rattle.dhat_json.specs.declared.profile.Dhat.{Dhat}
-use Rattle.dhat_json.specs.DhatValue.{
-  whole,
-  optional_text,
-  optional_whole,
-  life_member,
-  access_member,
-  point_value,
-  texts_data,
-  wholes_data,
-}
+use Rattle.dhat_json.specs.DhatValue.{whole, optional_text, optional_whole, life_member, access_member, point_value}
+use Rattle.dhat_json.specs.DhatValue.{texts_data, wholes_data}
 
 abbrev pub unit_members : Dhat → Members → Members
 unit_members dhat rest =

@@ -1,25 +1,7 @@
 -- A value says a profile where each key has what the field says, a part of a point stands where the
 -- profile tells of it, and each frame is in the table.
-use Rattle.std.specs.Prelude.{
-  ◌≡◌,
-  ◌-◌,
-  ◌^◌,
-  ◌<◌,
-  ℕ,
-  List,
-  length,
-  map,
-  All,
-  Bool,
-  true,
-  false,
-  Option,
-  Some,
-  None,
-  IsSome,
-  IfSome,
-  codes,
-}
+use Rattle.std.specs.Prelude.{◌≡◌, ◌-◌, ◌^◌, ◌<◌, ℕ, List, length, map, All, Bool, true, false, Option, Some, None}
+use Rattle.std.specs.Prelude.{IsSome, IfSome, codes}
 use Rattle.std.specs.List.{AllZip}
 use Rattle.serde_json.specs.Data.{Data, boolean, string, array}
 use Rattle.serde_json.specs.Find.{get, as_object, as_array}

@@ -1,38 +1,9 @@
 -- The keys of a profile as they stand in the file. The name of each key, as it stands in the file.
 use Rattle.std.specs.Prelude.{ℕ, List, codes}
 use Rattle.dhat_json.specs.declared.key.Key.{Key}
-use Rattle.dhat_json.specs.declared.key.Key.TheVariants.{
-  DhatFileVersion,
-  Mode,
-  Verb,
-  Bklt,
-  Bkacc,
-  Bu,
-  Bsu,
-  Bksu,
-  Tu,
-  Mtu,
-  Tuth,
-  Cmd,
-  Pid,
-  Te,
-  Tg,
-  Ftbl,
-  Pps,
-  Tb,
-  Tbk,
-  Tl,
-  Mb,
-  Mbk,
-  Gb,
-  Gbk,
-  Eb,
-  Ebk,
-  Rb,
-  Wb,
-  Acc,
-  Fs,
-}
+use Rattle.dhat_json.specs.declared.key.Key.TheVariants.{DhatFileVersion, Mode, Verb, Bklt, Bkacc, Bu, Bsu, Bksu, Tu}
+use Rattle.dhat_json.specs.declared.key.Key.TheVariants.{Mtu, Tuth, Cmd, Pid, Te, Tg, Ftbl, Pps, Tb, Tbk, Tl, Mb, Mbk}
+use Rattle.dhat_json.specs.declared.key.Key.TheVariants.{Gb, Gbk, Eb, Ebk, Rb, Wb, Acc, Fs}
 
 abbrev pub key_name : Key → List ℕ
 key_name DhatFileVersion = codes "dhatFileVersion"

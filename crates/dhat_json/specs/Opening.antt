@@ -1,18 +1,7 @@
 -- What a token begins, for private clauses.
 use Rattle.std.specs.Prelude.{Bool, true, false}
-use Rattle.json.specs.Token.{
-  Token,
-  begin_object,
-  end_object,
-  begin_array,
-  end_array,
-  key,
-  string,
-  number,
-  boolean,
-  null,
-  bad,
-}
+use Rattle.json.specs.Token.{Token, begin_object, end_object, begin_array, end_array, key, string, number, boolean}
+use Rattle.json.specs.Token.{null, bad}
 
 abbrev pub begins_object : Token → Bool
 begins_object begin_object = true

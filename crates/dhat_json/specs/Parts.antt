@@ -2,22 +2,8 @@
 use Rattle.std.specs.Prelude.{List, IfSome, IsUtf8}
 use Rattle.serde_json.specs.Data.{Data}
 use Rattle.serde_json.specs.Find.{as_str}
-use Rattle.dhat_json.specs.declared.key.Key.TheVariants.{
-  Mode,
-  Verb,
-  Bklt,
-  Bkacc,
-  Bu,
-  Bsu,
-  Bksu,
-  Tu,
-  Mtu,
-  Tuth,
-  Cmd,
-  Pid,
-  Te,
-  Tg,
-}
+use Rattle.dhat_json.specs.declared.key.Key.TheVariants.{Mode, Verb, Bklt, Bkacc, Bu, Bsu, Bksu, Tu, Mtu, Tuth, Cmd}
+use Rattle.dhat_json.specs.declared.key.Key.TheVariants.{Pid, Te, Tg}
 use Rattle.dhat_json.specs.declared.parts.Front.{Front}
 use Rattle.dhat_json.specs.declared.parts.Head.{Head}
 use Rattle.dhat_json.specs.declared.parts.Units.{Units}

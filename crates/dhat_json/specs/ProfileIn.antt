@@ -6,36 +6,9 @@ use Rattle.std.specs.Option.{option_and_then}
 use Rattle.serde_json.specs.Data.{Data}
 use Rattle.serde_json.specs.Find.{get, as_str, as_bool}
 use Rattle.dhat_json.specs.declared.key.Key.{Key}
-use Rattle.dhat_json.specs.declared.key.Key.TheVariants.{
-  Mode,
-  Verb,
-  Bklt,
-  Bkacc,
-  Bu,
-  Bsu,
-  Bksu,
-  Tu,
-  Mtu,
-  Tuth,
-  Cmd,
-  Pid,
-  Te,
-  Tg,
-  Ftbl,
-  Pps,
-  Tb,
-  Tbk,
-  Tl,
-  Mb,
-  Mbk,
-  Gb,
-  Gbk,
-  Eb,
-  Ebk,
-  Rb,
-  Wb,
-  Fs,
-}
+use Rattle.dhat_json.specs.declared.key.Key.TheVariants.{Mode, Verb, Bklt, Bkacc, Bu, Bsu, Bksu, Tu, Mtu, Tuth, Cmd}
+use Rattle.dhat_json.specs.declared.key.Key.TheVariants.{Pid, Te, Tg, Ftbl, Pps, Tb, Tbk, Tl, Mb, Mbk, Gb, Gbk, Eb, Ebk}
+use Rattle.dhat_json.specs.declared.key.Key.TheVariants.{Rb, Wb, Fs}
 use Rattle.dhat_json.specs.declared.profile.Life.{Life}
 use Rattle.dhat_json.specs.declared.profile.Access.{Access}
 use Rattle.dhat_json.specs.declared.profile.Point.{Point}

@@ -2,15 +2,8 @@
 -- cause. What the reader answers is the defined profile or fault, unless memory was wanting.
 use Rattle.std.specs.Prelude.{◌≡◌, Option, Some, None, Result, Ok, Err}
 use Rattle.dhat_json.specs.declared.fault.DhatFault.{DhatFault}
-use Rattle.dhat_json.specs.declared.fault.DhatFault.TheVariants.{
-  NotJson,
-  WrongFileVersion,
-  MissingKey,
-  WrongKind,
-  FrameOutOfTable,
-  TooMany,
-  NoMemory,
-}
+use Rattle.dhat_json.specs.declared.fault.DhatFault.TheVariants.{NotJson, WrongFileVersion, MissingKey, WrongKind}
+use Rattle.dhat_json.specs.declared.fault.DhatFault.TheVariants.{FrameOutOfTable, TooMany, NoMemory}
 use Rattle.dhat_json.specs.declared.profile.Dhat.{Dhat}
 
 -- the claim, where the fault is another than want of memory

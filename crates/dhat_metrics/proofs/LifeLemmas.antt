@@ -1,12 +1,15 @@
 -- The figures that follow from the sums of the stacks, and how the sums keep what they promise.
-use Rattle.std.proofs.Common.{zero, suc, ◌≡◌, ◌≢◌, ℕ, ◌+◌, ◌*◌, ◌-◌, ◌^◌, ◌<◌, ◌≤◌, List, [], ◌∷◌, ◌++◌, length, map, get_or, set, take, Bool, true, false, cond, refl, inl, inr, sym, ap, subst, ◌∙◌, add-zero, rules, arith}
+use Rattle.std.proofs.Common.{zero, suc, ◌≡◌, ◌≢◌, ℕ, ◌+◌, ◌*◌, ◌-◌, ◌^◌, ◌<◌, ◌≤◌, List, [], ◌∷◌, ◌++◌, length, map}
+use Rattle.std.proofs.Common.{get_or, set, take, Bool, true, false, cond, refl, inl, inr, sym, ap, subst, ◌∙◌, add-zero}
+use Rattle.std.proofs.Common.{rules, arith}
 use Rattle.std.specs.Prelude.{slice_index_or, nat_lt, ◌==◌, sum_by}
 use Rattle.std.proofs.Math.ListN as lists
 use Rattle.std.proofs.Math.Nat.{add-mul, le-mul_of_pos_right, mul-add, mul-le-mul_left, mul-le-mul_right}
 use Rattle.std.proofs.lemmas.Bool.{eq-eqb, le-ltb}
 use Rattle.std.proofs.lemmas.Bool.Decides.{eqb_tells}
 use Rattle.std.proofs.lemmas.List.Sums.{sum_by_push}
-use Rattle.std.proofs.lemmas.List.{get_or_default, get_or-set_other, get_or-set_same, length-append, length-map, length-set, map-append}
+use Rattle.std.proofs.lemmas.List.{get_or_default, get_or-set_other, get_or-set_same, length-append, length-map}
+use Rattle.std.proofs.lemmas.List.{length-set, map-append}
 use Rattle.live_ledger.specs.declared.event.Event.{Event}
 use Rattle.live_ledger.specs.declared.event.Event.TheVariants.{Alloc, Free, Tick}
 use Rattle.live_ledger.specs.ByInfo.{AreBalanced}
@@ -18,7 +21,8 @@ use Rattle.dhat_metrics.specs.Changes.{IsOfHeld, Moves, one_if}
 use Rattle.dhat_metrics.specs.Life.{AreLives, IsLife, figures_of, life_at, no_sums, state_of, with_alloc, with_free}
 use Rattle.dhat_metrics.specs.LifeState.{AreWithin, IsSound, LifeState, figures_at, no_figures}
 use Rattle.dhat_metrics.specs.StandsFor.{AreFiguresOf, HasMost, StandsFor, live_after}
-use Rattle.live_ledger.specs.InStack.{alloc_size_in, allocated_in, blocks_in, calls_in, free_size_in, freed_in, frees_in, is_alloc_in, is_free_in, live_in}
+use Rattle.live_ledger.specs.InStack.{alloc_size_in, allocated_in, blocks_in, calls_in, free_size_in, freed_in}
+use Rattle.live_ledger.specs.InStack.{frees_in, is_alloc_in, is_free_in, live_in}
 use Rattle.dhat_metrics.specs.Times.{alloc_times, free_times}
 use Rattle.dhat_metrics.proofs.Stepping.{figures-move}
 use Rattle.dhat_metrics.proofs.TimeLemmas.{allocated-within, count-push, counted-tick, timed-tick}

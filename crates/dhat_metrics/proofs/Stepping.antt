@@ -1,5 +1,6 @@
 -- The figures of a list of events with one more.
-use Rattle.std.proofs.Common.{◌≡◌, ℕ, ◌+◌, ◌*◌, ◌<◌, ◌≤◌, List, [], ◌∷◌, ◌++◌, Bool, true, false, cond, refl, inl, inr, sym, ap, subst, ◌∙◌, ◌⊎◌, add-zero, arith}
+use Rattle.std.proofs.Common.{◌≡◌, ℕ, ◌+◌, ◌*◌, ◌<◌, ◌≤◌, List, [], ◌∷◌, ◌++◌, Bool, true, false, cond, refl, inl, inr}
+use Rattle.std.proofs.Common.{sym, ap, subst, ◌∙◌, ◌⊎◌, add-zero, arith}
 use Rattle.std.specs.Prelude.{nat_lt}
 use Rattle.std.proofs.lemmas.Bool.{cases_lt, le-ltb, lt-ltb}
 use Rattle.std.proofs.lemmas.Bool.Decides.{eqb_tells}
@@ -8,12 +9,14 @@ use Rattle.std.proofs.lemmas.List.Sums.{sum_by_push}
 use Rattle.live_ledger.specs.declared.event.Event.{Event}
 use Rattle.live_ledger.specs.declared.event.Event.TheVariants.{Alloc, Free, Tick}
 use Rattle.live_ledger.specs.Events.{event_count, is_counted}
-use Rattle.live_ledger.specs.InStack.{alloc_size_in, allocated_in, blocks_in, calls_in, free_size_in, freed_in, frees_in, is_alloc_in, is_free_in, live_in}
+use Rattle.live_ledger.specs.InStack.{alloc_size_in, allocated_in, blocks_in, calls_in, free_size_in, freed_in}
+use Rattle.live_ledger.specs.InStack.{frees_in, is_alloc_in, is_free_in, live_in}
 use Rattle.dhat_metrics.specs.declared.figures.LifeFigures.{LifeFigures}
 use Rattle.dhat_metrics.specs.Changes.{Moves, one_if}
 use Rattle.dhat_metrics.specs.StandsFor.{AreFiguresOf, HasMost, blocks_after, live_after}
 use Rattle.dhat_metrics.specs.Times.{alloc_times, free_times}
-use Rattle.dhat_metrics.proofs.TimeLemmas.{alloc_times-push, blocks-all, count-push, first-before, free_times-push, live-all}
+use Rattle.dhat_metrics.proofs.TimeLemmas.{alloc_times-push, blocks-all, count-push, first-before, free_times-push}
+use Rattle.dhat_metrics.proofs.TimeLemmas.{live-all}
 
 -- what a stack has live after the first events stays when one more comes
 live-before : (n k : ℕ) (events : List Event) (event : Event) → is_counted event ≡ true → k ≤ event_count events

@@ -1,5 +1,6 @@
 -- Lists of events with one more: the allocations and frees, their times, and what stands live.
-use Rattle.std.proofs.Common.{suc, ◌≡◌, ℕ, ◌+◌, ◌≤◌, List, [], ◌∷◌, ◌++◌, length, take, Bool, true, cond, refl, sym, ap, ◌∙◌, add-zero, append-nil, rules, arith}
+use Rattle.std.proofs.Common.{suc, ◌≡◌, ℕ, ◌+◌, ◌≤◌, List, [], ◌∷◌, ◌++◌, length, take, Bool, true, cond, refl, sym, ap}
+use Rattle.std.proofs.Common.{◌∙◌, add-zero, append-nil, rules, arith}
 use Rattle.std.specs.Prelude.{sum_by}
 use Rattle.std.specs.List.{range_with_len, zip}
 use Rattle.std.proofs.lemmas.List.{take-append-le, take_all}
@@ -8,7 +9,8 @@ use Rattle.std.proofs.lemmas.List.Sums.{length-filter, sum_by-cons, sum_by_push}
 use Rattle.live_ledger.specs.declared.event.Event.{Event}
 use Rattle.live_ledger.specs.declared.event.Event.TheVariants.{Alloc, Free, Tick}
 use Rattle.live_ledger.specs.Events.{counted, event_count, is_counted}
-use Rattle.live_ledger.specs.InStack.{alloc_size_in, allocated_in, blocks_in, calls_in, free_size_in, freed_in, frees_in, is_alloc_in, is_free_in, live_in}
+use Rattle.live_ledger.specs.InStack.{alloc_size_in, allocated_in, blocks_in, calls_in, free_size_in, freed_in}
+use Rattle.live_ledger.specs.InStack.{frees_in, is_alloc_in, is_free_in, live_in}
 use Rattle.live_ledger.specs.LiveBytes.{alloc_size, allocated_bytes}
 use Rattle.dhat_metrics.specs.Times.{alloc_times, free_times, timed}
 use Rattle.dhat_metrics.specs.StandsFor.{blocks_after, live_after}

@@ -1,8 +1,11 @@
 -- What is gathered of a stack on the way outwards, with the segments that begin there.
-use Rattle.std.proofs.Common.{◌≡◌, ◌≢◌, ℕ, ◌+◌, ◌-◌, ◌<◌, ◌≤◌, eqb, inl, inr, ◌⊎◌, Bool, true, false, List, [], ◌∷◌, ◌++◌, drop, get_or, length, set, take, Option, Some, refl, ap, ap₂, ◌∙◌, sym, subst, arith, append_assoc, append-nil, length-append}
+use Rattle.std.proofs.Common.{◌≡◌, ◌≢◌, ℕ, ◌+◌, ◌-◌, ◌<◌, ◌≤◌, eqb, inl, inr, ◌⊎◌, Bool, true, false, List, [], ◌∷◌}
+use Rattle.std.proofs.Common.{◌++◌, drop, get_or, length, set, take, Option, Some, refl, ap, ap₂, ◌∙◌, sym, subst}
+use Rattle.std.proofs.Common.{arith, append_assoc, append-nil, length-append}
 use Rattle.std.specs.Prelude.{All, IfSome}
 use Rattle.std.proofs.lemmas.Bool.Decides.{nat_tests}
-use Rattle.std.proofs.lemmas.List.{drop-append-le, drop-take, drop_all, get_or-set_other, length-set, length-take, take-append-drop, take-append-le, take-take, take_all}
+use Rattle.std.proofs.lemmas.List.{drop-append-le, drop-take, drop_all, get_or-set_other, length-set, length-take}
+use Rattle.std.proofs.lemmas.List.{take-append-drop, take-append-le, take-take, take_all}
 use Rattle.std.proofs.lemmas.List.Elements.{All-append, All-cons, All-nil, All-pop, All-weaker}
 use Rattle.std.proofs.lemmas.Grind.{get_or-set_at}
 use Rattle.std.proofs.lemmas.Option.{slice_get-get_or}
@@ -14,7 +17,8 @@ use Rattle.dhat_trace.specs.Backtraces.{IsTelling, IsTold}
 use Rattle.dhat_trace.specs.FrameTable.{AddsTexts, Keeps, frame_texts}
 use Rattle.dhat_trace.specs.KnownPlaces.{AreTold, GainsPlaces, HavePlaces, instruction_texts}
 use Rattle.dhat_trace.specs.Segments.{IsGathered, IsSegment}
-use Rattle.dhat_trace.proofs.KnownLemmas.{adds_known, gains_all, known_later, known_more, outer_are, outer_step, outer_texts, places_both, places_stay}
+use Rattle.dhat_trace.proofs.KnownLemmas.{adds_known, gains_all, known_later, known_more, outer_are, outer_step}
+use Rattle.dhat_trace.proofs.KnownLemmas.{outer_texts, places_both, places_stay}
 use Rattle.dhat_trace.proofs.PlaceLemmas.{adds_more, keeps_later}
 
 -- the places from a segment's start on are those of its stack's frames, but for what the stack that is left has

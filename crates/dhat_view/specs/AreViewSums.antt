@@ -3,7 +3,8 @@
 -- with it, and each front of at most so many texts whose sum isn't 0 and whose share is not below
 -- the threshold has one line. A line of gathered places stands below a front's line and has the sum
 -- and the number of all fronts one text longer whose share is below the threshold.
-use Rattle.std.specs.Prelude.{◌≡◌, ◌≢◌, ℕ, ◌+◌, ◌*◌, ◌<◌, ◌≤◌, All, AllPairs, Contains, List, [], ◌∷◌, ◌++◌, drop, length, take, Some, slice_get, sum, sum_by}
+use Rattle.std.specs.Prelude.{◌≡◌, ◌≢◌, ℕ, ◌+◌, ◌*◌, ◌<◌, ◌≤◌, All, AllPairs, Contains, List, [], ◌∷◌, ◌++◌, drop}
+use Rattle.std.specs.Prelude.{length, take, Some, slice_get, sum, sum_by}
 use Rattle.std.specs.List.{flat_map}
 use Rattle.cost_tree.specs.declared.scale.Scale.{Scale}
 use Rattle.cost_tree.specs.Costed.{Costed}

@@ -1,10 +1,13 @@
 -- Where the lines of a trace break off: from its first fault to the recordings that begin so.
-use Rattle.std.proofs.Common.{◌≡◌, ℕ, suc, ◌+◌, ◌<◌, ◌&&◌, Bool, true, false, cond, true≢false, add-one, List, [], ◌∷◌, ◌++◌, length, take, drop, Option, None, Some, refl, ap, sym, ◌∙◌, arith, append_assoc, append-nil}
+use Rattle.std.proofs.Common.{◌≡◌, ℕ, suc, ◌+◌, ◌<◌, ◌&&◌, Bool, true, false, cond, true≢false, add-one, List, [], ◌∷◌}
+use Rattle.std.proofs.Common.{◌++◌, length, take, drop, Option, None, Some, refl, ap, sym, ◌∙◌, arith, append_assoc}
+use Rattle.std.proofs.Common.{append-nil}
 use Rattle.std.specs.Prelude.{nat_le, nat_lt}
 use Rattle.std.specs.Option.{option_map, option_or}
 use Rattle.std.proofs.lemmas.List.{take-append-drop, take_all}
 use Rattle.hp_outside.specs.Lines.{lines_of}
-use Rattle.command_frame.specs.FirstFault.{Bounds, Refusal, bytes_of_lines, end_refusal, file_fault, first_fault, input_too_long, is_ended, length_fault, line_faults, line_too_long}
+use Rattle.command_frame.specs.FirstFault.{Bounds, Refusal, bytes_of_lines, end_refusal, file_fault, first_fault}
+use Rattle.command_frame.specs.FirstFault.{input_too_long, is_ended, length_fault, line_faults, line_too_long}
 use Rattle.command_frame.specs.Told.{Told, code_of}
 use Rattle.command_frame.proofs.Laws.{text_ended}
 use Rattle.order_check.specs.Following.{is_front, whole_events}

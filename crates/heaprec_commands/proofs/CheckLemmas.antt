@@ -1,12 +1,14 @@
 -- From a run over a trace to what it says of it.
-use Rattle.std.proofs.Common.{◌≡◌, ◌⊎◌, ℕ, ◌+◌, Bool, true, false, List, [], ◌∷◌, length, Option, None, Some, refl, ap, ap₂, sym, subst, ◌∙◌, inl, inr, arith}
+use Rattle.std.proofs.Common.{◌≡◌, ◌⊎◌, ℕ, ◌+◌, Bool, true, false, List, [], ◌∷◌, length, Option, None, Some, refl, ap}
+use Rattle.std.proofs.Common.{ap₂, sym, subst, ◌∙◌, inl, inr, arith}
 use Rattle.std.specs.Option.{option_map, option_or}
 use Rattle.hp_outside.specs.Folder.{Folder, file_of}
 use Rattle.hp_outside.specs.Lines.{lines_of}
 use Rattle.hp_outside.specs.Taken.{WhereTold}
 use Rattle.hp_outside.specs.WholeLines.{text_of_lines}
 use Rattle.command_frame.specs.Answer.{Answer, after, line_answer, memory_answer, verdict_answer}
-use Rattle.command_frame.specs.FileRead.{Absent, CannotOpen, CannotRead, EndsIn, FileEnd, Passed, PassedWhole, Refused, Unopened, Unwritten, Wanting}
+use Rattle.command_frame.specs.FileRead.{Absent, CannotOpen, CannotRead, EndsIn, FileEnd, Passed, PassedWhole, Refused}
+use Rattle.command_frame.specs.FileRead.{Unopened, Unwritten, Wanting}
 use Rattle.command_frame.specs.FirstFault.{Bounds, Refusal, end_refusal, first_fault, is_ended, line_faults}
 use Rattle.command_frame.specs.Told.{Told, code_of}
 use Rattle.command_frame.specs.Moment.{Moment}

@@ -1,5 +1,6 @@
 -- From the reading of files to the run of the words, and from there to all that is promised of a run.
-use Rattle.std.proofs.Common.{◌≡◌, ◌≢◌, ◌⊎◌, ℕ, Bool, false, IsErrAnd, List, [], ◌∷◌, option_to_list, Option, Some, None, Ok, Err, refl, ap, sym, subst, ◌∙◌, inl, inr, Vec, Result, arith}
+use Rattle.std.proofs.Common.{◌≡◌, ◌≢◌, ◌⊎◌, ℕ, Bool, false, IsErrAnd, List, [], ◌∷◌, option_to_list, Option, Some}
+use Rattle.std.proofs.Common.{None, Ok, Err, refl, ap, sym, subst, ◌∙◌, inl, inr, Vec, Result, arith}
 use Rattle.std.specs.Prelude.{vec_items}
 use Rattle.std.specs.Io.KnownBytes.{append_known}
 use Rattle.std.proofs.lemmas.Bool.Decides.{eqb_tells}
@@ -21,10 +22,12 @@ use Rattle.command_frame.specs.RunsTo.{RunsTo, Shown, Taken, rest_of, status_of}
 use Rattle.command_frame.specs.Task.{IsSilentTask, task_names}
 use Rattle.command_frame.specs.Texts.{Texts, texts_of}
 use Rattle.command_frame.specs.WordsRan.{WordsRan}
-use Rattle.command_frame.proofs.Laws.{TaskEnded, append_nothing, defined_by, gives_as, judged_by, run_ends, silent_by, status_told, told_by, words_not_ran, wrote}
+use Rattle.command_frame.proofs.Laws.{TaskEnded, append_nothing, defined_by, gives_as, judged_by, run_ends, silent_by}
+use Rattle.command_frame.proofs.Laws.{status_told, told_by, words_not_ran, wrote}
 use Rattle.order_check.specs.FrontLaws.{FrontLaws}
 use Rattle.record_scripts.specs.Job.{Job}
-use Rattle.heaprec_commands.specs.Answer.{names_asked, names_of, record_plan, task_asked, task_plan, trace_asked, unchecked}
+use Rattle.heaprec_commands.specs.Answer.{names_asked, names_of, record_plan, task_asked, task_plan, trace_asked}
+use Rattle.heaprec_commands.specs.Answer.{unchecked}
 use Rattle.heaprec_commands.specs.CheckReport.{check_report}
 use Rattle.heaprec_commands.specs.FileLines.{no_job}
 use Rattle.heaprec_commands.specs.FilesPlan.{files_front, job_in}

@@ -1,5 +1,7 @@
 -- From the reading of one file to that of the first files of a run.
-use Rattle.std.proofs.Common.{◌≡◌, ◌≢◌, ℕ, ◌+◌, ◌<◌, ◌≤◌, suc, Bor, IsErrAnd, List, [], ◌∷◌, ◌++◌, length, length-append, map, drop, drop-cons, drop_of_length-le, get_or, take, take_all, unwrap_or, Option, None, Some, Result, Ok, Err, refl, ap, sym, subst, ◌∙◌, arith}
+use Rattle.std.proofs.Common.{◌≡◌, ◌≢◌, ℕ, ◌+◌, ◌<◌, ◌≤◌, suc, Bor, IsErrAnd, List, [], ◌∷◌, ◌++◌, length}
+use Rattle.std.proofs.Common.{length-append, map, drop, drop-cons, drop_of_length-le, get_or, take, take_all, unwrap_or}
+use Rattle.std.proofs.Common.{Option, None, Some, Result, Ok, Err, refl, ap, sym, subst, ◌∙◌, arith}
 use Rattle.std.specs.Io.KnownBytes.{append_known}
 use Rattle.hp_outside.specs.Faults.{Rose}
 use Rattle.hp_outside.specs.Folder.{Folder, file_of}
@@ -10,7 +12,8 @@ use Rattle.command_frame.specs.declared.halt.Halt.{Halt}
 use Rattle.command_frame.specs.declared.halt.Message.TheVariants.{OutOfMemory}
 use Rattle.command_frame.specs.declared.halt.Status.TheVariants.{NoMemory}
 use Rattle.command_frame.specs.Answer.{Answer, after}
-use Rattle.command_frame.specs.FileRead.{Absent, Calls, CannotOpen, CannotRead, EndsIn, FileEnd, FileRead, Passed, Refused, Unopened, Unwritten, Wanting, end_answer, end_output}
+use Rattle.command_frame.specs.FileRead.{Absent, Calls, CannotOpen, CannotRead, EndsIn, FileEnd, FileRead, Passed}
+use Rattle.command_frame.specs.FileRead.{Refused, Unopened, Unwritten, Wanting, end_answer, end_output}
 use Rattle.command_frame.specs.FirstFault.{Bounds, bounds_of}
 use Rattle.command_frame.specs.Halts.{halt_answer, status_code}
 use Rattle.command_frame.specs.Moment.{Moment}
@@ -25,7 +28,8 @@ use Rattle.record_scripts.specs.Job.{Job}
 use Rattle.heaprec_commands.specs.declared.reader.FileKind.{FileKind}
 use Rattle.heaprec_commands.specs.declared.reader.FileKind.TheVariants.{Modules, Script}
 use Rattle.heaprec_commands.specs.FileLines.{begun, file_report, with_lines}
-use Rattle.heaprec_commands.specs.FilesPlan.{file_front, file_plan, files_front, files_named, lines_in, modules_front, scripts_front, scripts_in, scripts_plan}
+use Rattle.heaprec_commands.specs.FilesPlan.{file_front, file_plan, files_front, files_named, lines_in, modules_front}
+use Rattle.heaprec_commands.specs.FilesPlan.{scripts_front, scripts_in, scripts_plan}
 use Rattle.heaprec_commands.specs.FrontRead.{Front, FrontRead, GoesOn, LeadsTo, read_to}
 use Rattle.heaprec_commands.proofs.LineLemmas.{count-lines}
 

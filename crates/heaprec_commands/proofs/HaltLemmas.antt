@@ -1,7 +1,8 @@
 -- Statuses of runs that aren't done.
 use Rattle.std.proofs.Common.{◌≢◌, arith}
 use Rattle.command_frame.specs.declared.halt.Status.{Status}
-use Rattle.command_frame.specs.declared.halt.Status.TheVariants.{Malformed, Usage, Unreadable, Unwritten, NoMemory, PastLimit}
+use Rattle.command_frame.specs.declared.halt.Status.TheVariants.{Malformed, Usage, Unreadable, Unwritten, NoMemory}
+use Rattle.command_frame.specs.declared.halt.Status.TheVariants.{PastLimit}
 use Rattle.command_frame.specs.Halts.{status_code}
 
 pub code_isnt_zero : (status : Status) → status_code status ≢ 0

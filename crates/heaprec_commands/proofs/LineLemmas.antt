@@ -1,5 +1,6 @@
 -- Lines of modules files and of scripts, one after another.
-use Rattle.std.proofs.Common.{◌≡◌, ℕ, Bool, true, false, if◌then◌else◌, List, [], ◌∷◌, ◌++◌, length, Option, None, Some, refl, ◌∙◌, arith}
+use Rattle.std.proofs.Common.{◌≡◌, ℕ, Bool, true, false, if◌then◌else◌, List, [], ◌∷◌, ◌++◌, length, Option, None, Some}
+use Rattle.std.proofs.Common.{refl, ◌∙◌, arith}
 use Rattle.record_scripts.specs.Job.{Job, in_last}
 use Rattle.record_scripts.specs.ScriptFaults.{with_turn}
 use Rattle.record_scripts.specs.ScriptLine.{turn_in}

@@ -8,7 +8,8 @@ use Rattle.command_words.specs.WordsTaken.{files_in, flag_in, rows_in, value_in}
 use Rattle.heaprec_commands.specs.declared.request.RecordRequest.{RecordRequest}
 use Rattle.heaprec_commands.specs.declared.request.RecordTask.{RecordTask}
 use Rattle.heaprec_commands.specs.declared.request.RecordTask.TheVariants.{Check, Record}
-use Rattle.heaprec_commands.specs.RecordWords.{Checks, RecordAsked, Records, Task, inputs_in, record_asked, record_by, task_given}
+use Rattle.heaprec_commands.specs.RecordWords.{Checks, RecordAsked, Records, Task, inputs_in, record_asked, record_by}
+use Rattle.heaprec_commands.specs.RecordWords.{task_given}
 
 -- what words ask for that the table takes
 abbrev pub taken_asks : TakenWords → Option RecordAsked

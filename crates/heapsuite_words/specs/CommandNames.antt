@@ -4,7 +4,8 @@
 use Rattle.std.specs.Prelude.{ℕ, List, codes, Option, Some, None, if◌then◌else◌}
 use Rattle.std.specs.Str.{bytes_eq}
 use Rattle.heapsuite_words.specs.declared.command.Command.{Command}
-use Rattle.heapsuite_words.specs.declared.command.Command.TheVariants.{Help, Summary, Print, Flame, Interpret, Massif, MsPrint, Dhat, Gen, DhatView, Convert}
+use Rattle.heapsuite_words.specs.declared.command.Command.TheVariants.{Help, Summary, Print, Flame, Interpret, Massif}
+use Rattle.heapsuite_words.specs.declared.command.Command.TheVariants.{MsPrint, Dhat, Gen, DhatView, Convert}
 
 -- the command of a name
 unfoldable pub command_named : List ℕ → Option Command

@@ -12,7 +12,8 @@ use Rattle.heapsuite_words.specs.declared.page_request.PageRequest.{PageRequest}
 use Rattle.heapsuite_words.specs.declared.print_request.PrintRequest.{PrintRequest}
 use Rattle.heapsuite_words.specs.declared.words.Request.{Request}
 use Rattle.heapsuite_words.specs.declared.words.Request.TheVariants as request
-use Rattle.heapsuite_words.specs.Asked.{Asked, Convert, Dhat, DhatView, Flame, Gen, Help, Interpret, Massif, Page, Print, Summary}
+use Rattle.heapsuite_words.specs.Asked.{Asked, Convert, Dhat, DhatView, Flame, Gen, Help, Interpret, Massif, Page}
+use Rattle.heapsuite_words.specs.Asked.{Print, Summary}
 use Rattle.heapsuite_words.specs.ConvertWords.{ConvertAsked}
 use Rattle.heapsuite_words.specs.FlameWords.{FlameAsked}
 use Rattle.heapsuite_words.specs.GenWords.{GenAsked}

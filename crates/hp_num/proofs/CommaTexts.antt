@@ -1,53 +1,8 @@
 -- What the texts with commas are.
-use Rattle.std.proofs.Common.{
-  ◌≡◌,
-  ◌≢◌,
-  ℕ,
-  ◌+◌,
-  ◌-◌,
-  ◌/◌,
-  ◌%◌,
-  ◌^◌,
-  ◌<◌,
-  ◌≤◌,
-  ◌⊎◌,
-  inl,
-  inr,
-  Bool,
-  true,
-  false,
-  nat_lt,
-  nat_eq,
-  List,
-  [],
-  ◌∷◌,
-  ◌++◌,
-  length,
-  take,
-  drop,
-  set,
-  get_or,
-  length-set,
-  length-drop,
-  drop-cons,
-  add-one,
-  lt-ltb,
-  ⊎_elim,
-  decimal,
-  refl,
-  sym,
-  ap,
-  ◌∙◌,
-  arith,
-  All,
-  ltb-true,
-  eqb-true,
-  eq-eqb,
-  if◌then◌else◌,
-  append_assoc,
-  append-nil,
-  drop_of_length-le,
-}
+use Rattle.std.proofs.Common.{◌≡◌, ◌≢◌, ℕ, ◌+◌, ◌-◌, ◌/◌, ◌%◌, ◌^◌, ◌<◌, ◌≤◌, ◌⊎◌, inl, inr, Bool, true, false, nat_lt}
+use Rattle.std.proofs.Common.{nat_eq, List, [], ◌∷◌, ◌++◌, length, take, drop, set, get_or, length-set, length-drop}
+use Rattle.std.proofs.Common.{drop-cons, add-one, lt-ltb, ⊎_elim, decimal, refl, sym, ap, ◌∙◌, arith, All, ltb-true}
+use Rattle.std.proofs.Common.{eqb-true, eq-eqb, if◌then◌else◌, append_assoc, append-nil, drop_of_length-le}
 use Rattle.std.proofs.lemmas.Bool.{cases_lt}
 use Rattle.std.proofs.lemmas.List.Elements.{All-cons, All-nil, All-head, All-tail}
 use Rattle.std.proofs.lemmas.List.{take_more_set}

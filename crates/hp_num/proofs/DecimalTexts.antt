@@ -1,36 +1,7 @@
 -- What the texts that `decimal` writes are, and what `parsed_dec` makes of a text.
-use Rattle.std.proofs.Common.{
-  ◌≡◌,
-  ℕ,
-  ◌+◌,
-  ◌*◌,
-  ◌^◌,
-  ◌<◌,
-  ◌≤◌,
-  ◌&&◌,
-  List,
-  [],
-  ◌∷◌,
-  length,
-  nat_lt,
-  get_or,
-  take,
-  decimal,
-  refl,
-  sym,
-  ap,
-  subst,
-  ◌∙◌,
-  arith,
-  lt-ltb,
-  ltb-true,
-  Option,
-  Some,
-  None,
-  All,
-  IsSome,
-  ◌↔◌,
-}
+use Rattle.std.proofs.Common.{◌≡◌, ℕ, ◌+◌, ◌*◌, ◌^◌, ◌<◌, ◌≤◌, ◌&&◌, List, [], ◌∷◌, length, nat_lt, get_or, take}
+use Rattle.std.proofs.Common.{decimal, refl, sym, ap, subst, ◌∙◌, arith, lt-ltb, ltb-true, Option, Some, None, All}
+use Rattle.std.proofs.Common.{IsSome, ◌↔◌}
 use Rattle.std.proofs.lemmas.Fmt.{decimal_is_IsNumeral, decimal_nonempty, length-decimal-le, decimal-digits_value}
 use Rattle.std.proofs.lemmas.Int.Digits.{digits_value-lt, digits_value_more}
 use Rattle.std.proofs.lemmas.List.Elements.{All-cons, All-nil, All-head, All-tail}

@@ -1,41 +1,7 @@
 -- The digits of `hexadecimal n` one by one: the last digit follows the text of what is before it.
-use Rattle.std.proofs.Common.{
-  ◌≡◌,
-  ℕ,
-  zero,
-  suc,
-  ◌+◌,
-  ◌/◌,
-  ◌%◌,
-  ◌^◌,
-  ◌<◌,
-  ◌≤◌,
-  false,
-  cond,
-  List,
-  [],
-  ◌∷◌,
-  ◌++◌,
-  length,
-  refl,
-  sym,
-  ap,
-  subst,
-  ◌∙◌,
-  ⊎_elim,
-  append_assoc,
-  arith,
-  eq-eqb,
-  ne_eqb,
-  length-append,
-  ◌-◌,
-  drop,
-  set,
-  length-set,
-  drop-cons,
-  get_or-set_same,
-  drop-set-lt,
-}
+use Rattle.std.proofs.Common.{◌≡◌, ℕ, zero, suc, ◌+◌, ◌/◌, ◌%◌, ◌^◌, ◌<◌, ◌≤◌, false, cond, List, [], ◌∷◌, ◌++◌, length}
+use Rattle.std.proofs.Common.{refl, sym, ap, subst, ◌∙◌, ⊎_elim, append_assoc, arith, eq-eqb, ne_eqb, length-append}
+use Rattle.std.proofs.Common.{◌-◌, drop, set, length-set, drop-cons, get_or-set_same, drop-set-lt}
 use Rattle.std.proofs.lemmas.Bool.{cases_lt}
 use Rattle.std.proofs.lemmas.Fmt.{hex_one_digit}
 use Rattle.std.specs.Fmt.{digits, digits_onto, digit_glyph}

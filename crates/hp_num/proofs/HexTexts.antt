@@ -1,49 +1,8 @@
 -- What the texts that `hexadecimal` writes are, and what `parsed_hex` makes of a text.
-use Rattle.std.proofs.Common.{
-  ◌≡◌,
-  ℕ,
-  zero,
-  suc,
-  ◌+◌,
-  ◌-◌,
-  ◌*◌,
-  ◌/◌,
-  ◌%◌,
-  ◌^◌,
-  ◌<◌,
-  ◌≤◌,
-  Bool,
-  true,
-  false,
-  cond,
-  nat_lt,
-  List,
-  [],
-  ◌∷◌,
-  ◌++◌,
-  length,
-  get_or,
-  refl,
-  sym,
-  ap,
-  subst,
-  ◌∙◌,
-  inl,
-  inr,
-  append_assoc,
-  append-nil,
-  arith,
-  lt-ltb,
-  ltb-true,
-  ltb-false,
-  le-ltb,
-  take,
-  length-take,
-  Option,
-  Some,
-  None,
-  All,
-}
+use Rattle.std.proofs.Common.{◌≡◌, ℕ, zero, suc, ◌+◌, ◌-◌, ◌*◌, ◌/◌, ◌%◌, ◌^◌, ◌<◌, ◌≤◌, Bool, true, false, cond}
+use Rattle.std.proofs.Common.{nat_lt, List, [], ◌∷◌, ◌++◌, length, get_or, refl, sym, ap, subst, ◌∙◌, inl, inr}
+use Rattle.std.proofs.Common.{append_assoc, append-nil, arith, lt-ltb, ltb-true, ltb-false, le-ltb, take, length-take}
+use Rattle.std.proofs.Common.{Option, Some, None, All}
 use Rattle.std.proofs.lemmas.Bool.Decides.{nat_tests}
 use Rattle.std.proofs.lemmas.Fmt.{digits_is_IsNumeral}
 use Rattle.std.proofs.lemmas.List.Elements.{All-push, All-cons, All-nil, All-head, All-tail}
@@ -59,13 +18,8 @@ use Rattle.hp_num.specs.Hexadecimal.{hexadecimal}
 use Rattle.hp_num.specs.Numeral.{is_numeral}
 use Rattle.hp_num.specs.ParsedHex.{parsed_hex}
 use Rattle.hp_num.proofs.Numerals.{Numeral, numeral_test, numeral_is}
-use Rattle.hp_num.proofs.HexSteps.{
-  last_digit,
-  hexadecimal_digit,
-  hexadecimal_step,
-  hexadecimal_by_steps,
-  length-hexadecimal-le,
-}
+use Rattle.hp_num.proofs.HexSteps.{last_digit, hexadecimal_digit, hexadecimal_step, hexadecimal_by_steps}
+use Rattle.hp_num.proofs.HexSteps.{length-hexadecimal-le}
 
 -- a digit below 16 is written by '0' to '9' or 'a' to 'f'
 glyph_lower : (d : ℕ) → d < 16 → IsLowerHexDigit (digit_glyph false d)

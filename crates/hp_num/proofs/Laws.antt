@@ -1,31 +1,7 @@
 -- What the crates above may cite: appends, one after another, of which the last may fail; the digits of hexadecimal
 -- texts; and the elements of a list that grows.
-use Rattle.std.proofs.Common.{
-  ◌≡◌,
-  ℕ,
-  zero,
-  suc,
-  ◌<◌,
-  ◌≤◌,
-  List,
-  [],
-  ◌∷◌,
-  ◌++◌,
-  length,
-  take,
-  drop,
-  Result,
-  Ok,
-  Err,
-  OnOk,
-  OnErr,
-  refl,
-  sym,
-  ap,
-  ◌∙◌,
-  arith,
-  Some,
-}
+use Rattle.std.proofs.Common.{◌≡◌, ℕ, zero, suc, ◌<◌, ◌≤◌, List, [], ◌∷◌, ◌++◌, length, take, drop, Result, Ok, Err}
+use Rattle.std.proofs.Common.{OnOk, OnErr, refl, sym, ap, ◌∙◌, arith, Some}
 use Rattle.std.proofs.lemmas.List.{take-append-le, length-take, take-append-drop}
 use Rattle.std.proofs.Math.Seq.{take-append_seam, take-length}
 use Rattle.std.specs.List.{slice_get}

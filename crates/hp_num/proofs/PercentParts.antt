@@ -1,44 +1,7 @@
 -- What `parsed_percent` makes of a text, by what `parsed_dec` makes of its parts.
-use Rattle.std.proofs.Common.{
-  ◌≡◌,
-  ℕ,
-  ◌+◌,
-  ◌-◌,
-  ◌*◌,
-  ◌^◌,
-  ◌<◌,
-  ◌≤◌,
-  Bool,
-  true,
-  false,
-  List,
-  [],
-  ◌∷◌,
-  length,
-  take,
-  drop,
-  nat_le,
-  refl,
-  sym,
-  ap,
-  ◌∙◌,
-  arith,
-  Option,
-  Some,
-  None,
-  if◌then◌else◌,
-  ne_eqb,
-  take_all,
-  length-take,
-  length-drop,
-  IfSome,
-  All,
-  ◌≢◌,
-  slice_index,
-  get_or,
-  eq-eqb,
-  ◌==◌,
-}
+use Rattle.std.proofs.Common.{◌≡◌, ℕ, ◌+◌, ◌-◌, ◌*◌, ◌^◌, ◌<◌, ◌≤◌, Bool, true, false, List, [], ◌∷◌, length, take}
+use Rattle.std.proofs.Common.{drop, nat_le, refl, sym, ap, ◌∙◌, arith, Option, Some, None, if◌then◌else◌, ne_eqb}
+use Rattle.std.proofs.Common.{take_all, length-take, length-drop, IfSome, All, ◌≢◌, slice_index, get_or, eq-eqb, ◌==◌}
 use Rattle.std.proofs.lemmas.Int.Digits.{digits_value-lt}
 use Rattle.std.proofs.lemmas.List.{take-append-le, get_or-take}
 use Rattle.std.proofs.lemmas.List.Sums.{position_or_len_is}

@@ -1,27 +1,7 @@
 -- A text is a percentage where 1 to 3 digits, with or without a point and 1 or 2 digits after them,
 -- say at most 100 percent.
-use Rattle.std.specs.Prelude.{
-  ℕ,
-  ◌+◌,
-  ◌*◌,
-  Bool,
-  ◌||◌,
-  ◌&&◌,
-  List,
-  [],
-  ◌∷◌,
-  ◌++◌,
-  ◌==◌,
-  length,
-  take,
-  drop,
-  nat_eq,
-  nat_le,
-  Option,
-  Some,
-  None,
-  if◌then◌else◌,
-}
+use Rattle.std.specs.Prelude.{ℕ, ◌+◌, ◌*◌, Bool, ◌||◌, ◌&&◌, List, [], ◌∷◌, ◌++◌, ◌==◌, length, take, drop, nat_eq}
+use Rattle.std.specs.Prelude.{nat_le, Option, Some, None, if◌then◌else◌}
 use Rattle.std.specs.List.{position_or_len}
 use Rattle.std.specs.Str.Parse.{digits_value}
 use Rattle.hp_num.specs.Numeral.{is_numeral}

@@ -1,64 +1,13 @@
 -- What it does to a folder and to a place in it that one more file is held.
-use Rattle.std.proofs.Common.{
-  ◌≡◌,
-  ◌+◌,
-  ◌<◌,
-  ℕ,
-  Bool,
-  true,
-  false,
-  cond,
-  nat_eq,
-  ◌≢◌,
-  List,
-  [],
-  ◌∷◌,
-  ◌++◌,
-  Option,
-  None,
-  Some,
-  length,
-  drop,
-  ◌≤◌,
-  zero,
-  suc,
-  refl,
-  ap,
-  ◌∙◌,
-  sym,
-  arith,
-  get_or,
-  add-one,
-  drop_of_length-le,
-  ◌-◌,
-  min,
-  take,
-  length-append,
-  unwrap_or,
-  option_map,
-  subst,
-}
+use Rattle.std.proofs.Common.{◌≡◌, ◌+◌, ◌<◌, ℕ, Bool, true, false, cond, nat_eq, ◌≢◌, List, [], ◌∷◌, ◌++◌, Option, None}
+use Rattle.std.proofs.Common.{Some, length, drop, ◌≤◌, zero, suc, refl, ap, ◌∙◌, sym, arith, get_or, add-one}
+use Rattle.std.proofs.Common.{drop_of_length-le, ◌-◌, min, take, length-append, unwrap_or, option_map, subst}
 use Rattle.std.specs.Option.{ForSome}
 use Rattle.std.specs.Ordering.{nat_cmp, eq_by_cmp}
-use Rattle.std.specs.Cmp.Lexicographic.{
-  slice_cmp,
-  pointwise,
-  same_text,
-  texts_ties,
-  nat_list_cmp_total,
-  nat_list_eq_equiv,
-}
-use Rattle.std.specs.FinMap.{
-  from_entries,
-  from_entries_push,
-  get-from_entries,
-  slice_cmp-IsAntisymmetric,
-  nat_cmp-IsAntisymmetric,
-  empty,
-  insert,
-  get-insert,
-  get-empty,
-}
+use Rattle.std.specs.Cmp.Lexicographic.{slice_cmp, pointwise, same_text, texts_ties, nat_list_cmp_total}
+use Rattle.std.specs.Cmp.Lexicographic.{nat_list_eq_equiv}
+use Rattle.std.specs.FinMap.{from_entries, from_entries_push, get-from_entries, slice_cmp-IsAntisymmetric}
+use Rattle.std.specs.FinMap.{nat_cmp-IsAntisymmetric, empty, insert, get-insert, get-empty}
 use Rattle.hp_outside.specs.Folder.{Folder, file_of}
 use Rattle.hp_outside.specs.HeldFiles.{entries_of, folder_of, bytes_at, left_at, IsWithin}
 use Rattle.hp_outside.specs.declared.sure_store.HeldFile.{HeldFile}

@@ -1,42 +1,7 @@
 -- What a reader of lines says of itself where it gives a line, and where it gives none.
-use Rattle.std.proofs.Common.{
-  ◌≡◌,
-  ◌≢◌,
-  ◌⊎◌,
-  inl,
-  inr,
-  if◌then◌else◌,
-  ◌+◌,
-  ◌<◌,
-  ◌≤◌,
-  ℕ,
-  Bool,
-  true,
-  false,
-  List,
-  [],
-  ◌∷◌,
-  Option,
-  None,
-  Some,
-  Result,
-  Ok,
-  Err,
-  ◌++◌,
-  length,
-  length-append,
-  take,
-  length-take,
-  refl,
-  sym,
-  ap,
-  subst,
-  ◌-◌,
-  ◌∙◌,
-  arith,
-  is_some,
-  is_ok,
-}
+use Rattle.std.proofs.Common.{◌≡◌, ◌≢◌, ◌⊎◌, inl, inr, if◌then◌else◌, ◌+◌, ◌<◌, ◌≤◌, ℕ, Bool, true, false, List, []}
+use Rattle.std.proofs.Common.{◌∷◌, Option, None, Some, Result, Ok, Err, ◌++◌, length, length-append, take, length-take}
+use Rattle.std.proofs.Common.{refl, sym, ap, subst, ◌-◌, ◌∙◌, arith, is_some, is_ok}
 use Rattle.std.proofs.lemmas.Bool.{false≢true}
 use Rattle.std.proofs.Math.Seq.{take-length}
 use Rattle.std.specs.Io.KnownBytes.{prepend_known}

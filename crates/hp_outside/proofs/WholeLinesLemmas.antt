@@ -1,40 +1,7 @@
 -- Whole lines in front of other bytes are the first lines of them all.
-use Rattle.std.proofs.Common.{
-  ◌≡◌,
-  ◌≢◌,
-  ℕ,
-  suc,
-  Bool,
-  true,
-  false,
-  cond,
-  not,
-  if◌then◌else◌,
-  ◌+◌,
-  ◌≤◌,
-  List,
-  [],
-  ◌∷◌,
-  ◌++◌,
-  Option,
-  IfSome,
-  None,
-  Some,
-  length,
-  take,
-  drop,
-  refl,
-  sym,
-  ap,
-  subst,
-  ◌∙◌,
-  arith,
-  append_assoc,
-  length-append,
-  length-take,
-  ne_eqb,
-  All,
-}
+use Rattle.std.proofs.Common.{◌≡◌, ◌≢◌, ℕ, suc, Bool, true, false, cond, not, if◌then◌else◌, ◌+◌, ◌≤◌, List, [], ◌∷◌}
+use Rattle.std.proofs.Common.{◌++◌, Option, IfSome, None, Some, length, take, drop, refl, sym, ap, subst, ◌∙◌, arith}
+use Rattle.std.proofs.Common.{append_assoc, length-append, length-take, ne_eqb, All}
 use Rattle.std.proofs.lemmas.List.{take-append-drop}
 use Rattle.std.proofs.lemmas.Bool.Decides.{nat_tests}
 use Rattle.std.proofs.lemmas.List.Elements.{All-cons, All-head, All-nil, All-tail}

@@ -1,23 +1,6 @@
 -- Parts of a buffer.
-use Rattle.std.proofs.Common.{
-  ◌≡◌,
-  ◌+◌,
-  ◌-◌,
-  ◌≤◌,
-  ℕ,
-  List,
-  ◌++◌,
-  Option,
-  length,
-  length-take,
-  length-drop,
-  take,
-  drop,
-  ap,
-  sym,
-  ◌∙◌,
-  arith,
-}
+use Rattle.std.proofs.Common.{◌≡◌, ◌+◌, ◌-◌, ◌≤◌, ℕ, List, ◌++◌, Option, length, length-take, length-drop, take, drop}
+use Rattle.std.proofs.Common.{ap, sym, ◌∙◌, arith}
 use Rattle.std.proofs.Math.Seq.{take-add, take-append_seam}
 use Rattle.std.specs.Io.KnownBytes.{prepend_known}
 use Rattle.hp_outside.proofs.Known.{prepend_known-append}

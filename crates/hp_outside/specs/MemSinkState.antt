@@ -1,22 +1,6 @@
 -- What a sink in memory holds, and which of its calls fail.
-use Rattle.std.specs.Prelude.{
-  ℕ,
-  ◌-◌,
-  List,
-  [],
-  ◌++◌,
-  Bool,
-  true,
-  false,
-  ◌==◌,
-  ◌||◌,
-  ◌&&◌,
-  nat_lt,
-  length,
-  take,
-  min,
-  refl,
-}
+use Rattle.std.specs.Prelude.{ℕ, ◌-◌, List, [], ◌++◌, Bool, true, false, ◌==◌, ◌||◌, ◌&&◌, nat_lt, length, take, min}
+use Rattle.std.specs.Prelude.{refl}
 use Rattle.std.specs.Coded.{Coded, code_by, coded×, coded_ℕ, coded_list}
 use Rattle.hp_outside.specs.Calls.{Calls, no_calls, next_fails, after_call, calls_code}
 

@@ -1,30 +1,7 @@
 -- A call for the next line gives what the rest of the file says, and leaves the rest; it reads only
 -- where it has to; what a caller that counts may rely on.
-use Rattle.std.specs.Prelude.{
-  ◌≡◌,
-  ◌≢◌,
-  ℕ,
-  ◌+◌,
-  ◌≤◌,
-  List,
-  [],
-  length,
-  Option,
-  None,
-  Some,
-  Result,
-  Err,
-  true,
-  false,
-  IsTrue,
-  IfOk,
-  IfErr,
-  OnOk,
-  IfSome,
-  IfNone,
-  is_some,
-  if◌then◌else◌,
-}
+use Rattle.std.specs.Prelude.{◌≡◌, ◌≢◌, ℕ, ◌+◌, ◌≤◌, List, [], length, Option, None, Some, Result, Err, true, false}
+use Rattle.std.specs.Prelude.{IsTrue, IfOk, IfErr, OnOk, IfSome, IfNone, is_some, if◌then◌else◌}
 use Rattle.hp_outside.specs.declared.span.LineFault.{LineFault}
 use Rattle.hp_outside.specs.declared.span.LineFault.TheVariants.{ReadFailed}
 use Rattle.hp_outside.specs.declared.span.Span.{Span}

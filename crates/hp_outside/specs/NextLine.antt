@@ -1,25 +1,7 @@
 -- The next line of the bytes that are left, or that it is too long or the input is, with what is
 -- left after it; a line feed ends it or not.
-use Rattle.std.specs.Prelude.{
-  ◌≡◌,
-  ◌≢◌,
-  ◌+◌,
-  ◌<◌,
-  ◌≤◌,
-  ℕ,
-  List,
-  [],
-  ◌∷◌,
-  Option,
-  None,
-  Some,
-  Result,
-  Ok,
-  Err,
-  Bool,
-  nat_lt,
-  length,
-}
+use Rattle.std.specs.Prelude.{◌≡◌, ◌≢◌, ◌+◌, ◌<◌, ◌≤◌, ℕ, List, [], ◌∷◌, Option, None, Some, Result, Ok, Err, Bool}
+use Rattle.std.specs.Prelude.{nat_lt, length}
 use Rattle.std.specs.List.{position_or_len}
 use Rattle.hp_outside.specs.Lines.{is_line_feed, lines_of, first_line, after_line}
 use Rattle.hp_outside.specs.declared.span.Span.{Span}

@@ -1,36 +1,8 @@
 -- What the calls of a reader of lines change in it. What the reader gives, passes over and takes
 -- from the store; what its window keeps; what a read leaves as it was.
-use Rattle.std.specs.Prelude.{
-  ◌≡◌,
-  ◌≢◌,
-  ◌⊎◌,
-  ℕ,
-  ◌+◌,
-  ◌<◌,
-  ◌≤◌,
-  List,
-  [],
-  Option,
-  None,
-  Some,
-  Result,
-  true,
-  false,
-  length,
-  take,
-  drop,
-  nat_eq,
-  is_ok,
-  is_some,
-  IsSome,
-  IfErr,
-  IfNone,
-  IfSome,
-  OnErr,
-  OnOk,
-  ◌↔◌,
-  if◌then◌else◌,
-}
+use Rattle.std.specs.Prelude.{◌≡◌, ◌≢◌, ◌⊎◌, ℕ, ◌+◌, ◌<◌, ◌≤◌, List, [], Option, None, Some, Result, true, false}
+use Rattle.std.specs.Prelude.{length, take, drop, nat_eq, is_ok, is_some, IsSome, IfErr, IfNone, IfSome, OnErr, OnOk}
+use Rattle.std.specs.Prelude.{◌↔◌, if◌then◌else◌}
 use Rattle.std.specs.Io.KnownBytes.{prepend_known}
 use Rattle.hp_outside.specs.declared.span.LineFault.{LineFault}
 use Rattle.hp_outside.specs.declared.span.LineFault.TheVariants.{ReadFailed}

@@ -1,22 +1,6 @@
 -- What the calls of a window on a file change in it, and in its buffer.
-use Rattle.std.specs.Prelude.{
-  ◌≡◌,
-  ℕ,
-  ◌+◌,
-  ◌-◌,
-  ◌≤◌,
-  List,
-  [],
-  Result,
-  Vec,
-  take,
-  length,
-  vec_len,
-  vec_capacity,
-  IfOk,
-  OnErr,
-  OnOk,
-}
+use Rattle.std.specs.Prelude.{◌≡◌, ℕ, ◌+◌, ◌-◌, ◌≤◌, List, [], Result, Vec, take, length, vec_len, vec_capacity, IfOk}
+use Rattle.std.specs.Prelude.{OnErr, OnOk}
 use Rattle.std.specs.Io.KnownBytes.{prepend_known}
 use Rattle.hp_outside.specs.declared.store.Failed.{Failed}
 use Rattle.hp_outside.specs.declared.store.Store as store

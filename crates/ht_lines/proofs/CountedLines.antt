@@ -2,14 +2,8 @@
 use Rattle.std.proofs.Common.{◌≡◌, ℕ, List, [], ◌∷◌, Option, Some, None, Result, Ok, Err, MatchResult, refl, ap, arith}
 use Rattle.hp_num.specs.ParsedHex.{parsed_hex}
 use Rattle.ht_lines.specs.declared.item.Malformed.{Malformed}
-use Rattle.ht_lines.specs.declared.item.Malformed.TheVariants.{
-  BadField,
-  MissingField,
-  ExtraField,
-  NotInterpreted,
-  NotRaw,
-  BadVersion,
-}
+use Rattle.ht_lines.specs.declared.item.Malformed.TheVariants.{BadField, MissingField, ExtraField, NotInterpreted}
+use Rattle.ht_lines.specs.declared.item.Malformed.TheVariants.{NotRaw, BadVersion}
 use Rattle.ht_lines.specs.declared.item.Form.TheVariants.{Raw, Interpreted}
 use Rattle.ht_lines.specs.Fields.{AreNumbers}
 use Rattle.ht_lines.specs.Refuses.{AreNoNumbers, RefusesNumbers, RefusesAllocation}

@@ -1,38 +1,7 @@
 -- The fields of a text, taken off one at a time from the front.
-use Rattle.std.proofs.Common.{
-  ◌≡◌,
-  ℕ,
-  suc,
-  ◌+◌,
-  ◌<◌,
-  ◌≤◌,
-  Bool,
-  true,
-  false,
-  cond,
-  eqb,
-  ltb,
-  List,
-  [],
-  ◌∷◌,
-  ◌++◌,
-  length,
-  take,
-  drop,
-  refl,
-  sym,
-  ap,
-  ◌∙◌,
-  subst,
-  arith,
-  Option,
-  Some,
-  None,
-  IsTrue,
-  length-append,
-  zero,
-  map,
-}
+use Rattle.std.proofs.Common.{◌≡◌, ℕ, suc, ◌+◌, ◌<◌, ◌≤◌, Bool, true, false, cond, eqb, ltb, List, [], ◌∷◌, ◌++◌}
+use Rattle.std.proofs.Common.{length, take, drop, refl, sym, ap, ◌∙◌, subst, arith, Option, Some, None, IsTrue}
+use Rattle.std.proofs.Common.{length-append, zero, map}
 use Rattle.std.specs.Prelude.{filter, unwrap_or, is_some, slice_get, IfNone}
 use Rattle.std.specs.Option.{option_and_then}
 use Rattle.std.proofs.lemmas.Bool.{false≢true}
@@ -41,19 +10,8 @@ use Rattle.hp_num.specs.ParsedHex.{parsed_hex}
 use Rattle.std.specs.List.{slice_split, onto_first, position, position_or_len}
 use borrow.Author.Tests.{eqb-true, lt-ltb, ltb-false}
 use Rattle.hp_num.proofs.Laws.{and-true}
-use Rattle.ht_lines.specs.Fields.{
-  is_blank,
-  fields,
-  after_blanks,
-  before_blank,
-  from_blank,
-  first_field,
-  after_field,
-  field_ends,
-  all_numbers,
-  number,
-  numbers,
-}
+use Rattle.ht_lines.specs.Fields.{is_blank, fields, after_blanks, before_blank, from_blank, first_field, after_field}
+use Rattle.ht_lines.specs.Fields.{field_ends, all_numbers, number, numbers}
 
 one-add : (n : ℕ) → 1 + n ≡ suc n
 one-add n = omega arith

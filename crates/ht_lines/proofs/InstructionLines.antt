@@ -1,54 +1,17 @@
 -- Lines of instructions: both sides, and both ways.
-use Rattle.std.proofs.Common.{
-  ◌≡◌,
-  ◌≢◌,
-  ℕ,
-  ◌%◌,
-  Bool,
-  true,
-  false,
-  cond,
-  eqb,
-  ◌||◌,
-  List,
-  [],
-  ◌∷◌,
-  length,
-  map,
-  Result,
-  Ok,
-  Err,
-  MatchResult,
-  refl,
-  ap,
-  inl,
-  inr,
-  arith,
-  ◌⊎◌,
-}
+use Rattle.std.proofs.Common.{◌≡◌, ◌≢◌, ℕ, ◌%◌, Bool, true, false, cond, eqb, ◌||◌, List, [], ◌∷◌, length, map, Result}
+use Rattle.std.proofs.Common.{Ok, Err, MatchResult, refl, ap, inl, inr, arith, ◌⊎◌}
 use Rattle.std.proofs.lemmas.Bool.Decides.{eqb_tells}
 use borrow.Author.Tests.{eq-eqb, ne_eqb}
 use Rattle.ht_lines.specs.declared.item.Malformed.{Malformed}
-use Rattle.ht_lines.specs.declared.item.Malformed.TheVariants.{
-  BadField,
-  MissingField,
-  ExtraField,
-  NotInterpreted,
-  NotRaw,
-  BadVersion,
-}
+use Rattle.ht_lines.specs.declared.item.Malformed.TheVariants.{BadField, MissingField, ExtraField, NotInterpreted}
+use Rattle.ht_lines.specs.declared.item.Malformed.TheVariants.{NotRaw, BadVersion}
 use Rattle.ht_lines.specs.Content.{Content, instruction_line}
 use Rattle.ht_lines.specs.Fields.{AreNumbers, all_numbers, number}
 use Rattle.ht_lines.specs.Refuses.{RefusesInstruction}
 use Rattle.ht_lines.specs.Reading.{instruction_of, instruction_from}
-use Rattle.ht_lines.proofs.NumberLemmas.{
-  AreNumbers-all,
-  all-AreNumbers,
-  AreNumbers-number,
-  not_all-AreNoNumbers,
-  AreNoNumbers-not_all,
-  AreNumbers-length,
-}
+use Rattle.ht_lines.proofs.NumberLemmas.{AreNumbers-all, all-AreNumbers, AreNumbers-number, not_all-AreNoNumbers}
+use Rattle.ht_lines.proofs.NumberLemmas.{AreNoNumbers-not_all, AreNumbers-length}
 
 -- as many fields as an instruction has
 abbrev pub IsInstructionCount : ℕ → Type 0

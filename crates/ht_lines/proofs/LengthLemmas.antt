@@ -1,61 +1,15 @@
 -- A line has a byte for its kind, and two for each field at least.
-use Rattle.std.proofs.Common.{
-  ◌≡◌,
-  ◌≢◌,
-  ℕ,
-  Bool,
-  true,
-  false,
-  eqb,
-  zero,
-  suc,
-  ◌+◌,
-  ◌<◌,
-  ◌≤◌,
-  List,
-  [],
-  ◌∷◌,
-  length,
-  IsTrue,
-  IfOk,
-  Result,
-  Ok,
-  Err,
-  refl,
-  ap,
-  inl,
-  inr,
-  arith,
-  ◌⊎◌,
-}
+use Rattle.std.proofs.Common.{◌≡◌, ◌≢◌, ℕ, Bool, true, false, eqb, zero, suc, ◌+◌, ◌<◌, ◌≤◌, List, [], ◌∷◌, length}
+use Rattle.std.proofs.Common.{IsTrue, IfOk, Result, Ok, Err, refl, ap, inl, inr, arith, ◌⊎◌}
 use Rattle.std.proofs.lemmas.Bool.Decides.{eqb_tells}
 use borrow.Author.Tests.{eq-eqb}
 use Rattle.ht_lines.specs.declared.item.Item.{Item}
 use Rattle.ht_lines.specs.declared.item.Malformed.{Malformed}
 use Rattle.ht_lines.specs.declared.item.Form.{Form}
-use Rattle.ht_lines.specs.Content.{
-  Content,
-  version_line,
-  executable_line,
-  command_line,
-  system_line,
-  string_line,
-  clear_line,
-  module_line,
-  instruction_line,
-  node_line,
-  info_line,
-  allocation_line,
-  free_line,
-  raw_allocation_line,
-  raw_free_line,
-  clock_line,
-  resident_line,
-  attached_line,
-  suppression_line,
-  comment_line,
-  other_line,
-}
+use Rattle.ht_lines.specs.Content.{Content, version_line, executable_line, command_line, system_line, string_line}
+use Rattle.ht_lines.specs.Content.{clear_line, module_line, instruction_line, node_line, info_line, allocation_line}
+use Rattle.ht_lines.specs.Content.{free_line, raw_allocation_line, raw_free_line, clock_line, resident_line}
+use Rattle.ht_lines.specs.Content.{attached_line, suppression_line, comment_line, other_line}
 use Rattle.ht_lines.specs.Fields.{is_blank, fields, field_ends, after_blanks, after_field, AreNumbers}
 use Rattle.ht_lines.specs.ItemContent.{content}
 use Rattle.ht_lines.specs.Kinds.{IsOfKind, after_kind, fields_of}

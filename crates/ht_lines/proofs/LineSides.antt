@@ -1,154 +1,39 @@
 -- Each line has the item or the fault that `reading` gives, and no other.
-use Rattle.std.proofs.Common.{
-  ◌≡◌,
-  ◌≢◌,
-  ℕ,
-  Bool,
-  true,
-  false,
-  cond,
-  eqb,
-  ◌||◌,
-  List,
-  [],
-  ◌∷◌,
-  length,
-  drop,
-  Option,
-  Some,
-  None,
-  Result,
-  Ok,
-  Err,
-  IsTrue,
-  IfOk,
-  IfErr,
-  MatchResult,
-  refl,
-  sym,
-  ap,
-  ◌∙◌,
-  subst,
-  inl,
-  inr,
-  arith,
-  ◌⊎◌,
-}
+use Rattle.std.proofs.Common.{◌≡◌, ◌≢◌, ℕ, Bool, true, false, cond, eqb, ◌||◌, List, [], ◌∷◌, length, drop, Option}
+use Rattle.std.proofs.Common.{Some, None, Result, Ok, Err, IsTrue, IfOk, IfErr, MatchResult, refl, sym, ap, ◌∙◌, subst}
+use Rattle.std.proofs.Common.{inl, inr, arith, ◌⊎◌}
 use Rattle.std.specs.Prelude.{codes}
 use Rattle.std.specs.List.{AllByRecursion, list_any}
 use Rattle.std.proofs.lemmas.Bool.{false≢true}
 use borrow.Author.Tests.{eqb-true, eq-eqb, ne_eqb}
 use Rattle.ht_lines.specs.declared.item.Malformed.{Malformed}
-use Rattle.ht_lines.specs.declared.item.Malformed.TheVariants.{
-  BadField,
-  MissingField,
-  ExtraField,
-  NotInterpreted,
-  NotRaw,
-  BadVersion,
-}
+use Rattle.ht_lines.specs.declared.item.Malformed.TheVariants.{BadField, MissingField, ExtraField, NotInterpreted}
+use Rattle.ht_lines.specs.declared.item.Malformed.TheVariants.{NotRaw, BadVersion}
 use Rattle.ht_lines.specs.declared.item.Item.{Item}
 use Rattle.ht_lines.specs.declared.item.Form.{Form}
 use Rattle.ht_lines.specs.declared.item.Form.TheVariants.{Raw, Interpreted}
 use Rattle.ht_lines.specs.ItemContent.{Gives, content}
-use Rattle.ht_lines.specs.Content.{
-  Content,
-  version_line,
-  executable_line,
-  command_line,
-  system_line,
-  string_line,
-  clear_line,
-  module_line,
-  instruction_line,
-  node_line,
-  info_line,
-  allocation_line,
-  free_line,
-  raw_allocation_line,
-  raw_free_line,
-  clock_line,
-  resident_line,
-  attached_line,
-  suppression_line,
-  comment_line,
-  other_line,
-}
+use Rattle.ht_lines.specs.Content.{Content, version_line, executable_line, command_line, system_line, string_line}
+use Rattle.ht_lines.specs.Content.{clear_line, module_line, instruction_line, node_line, info_line, allocation_line}
+use Rattle.ht_lines.specs.Content.{free_line, raw_allocation_line, raw_free_line, clock_line, resident_line}
+use Rattle.ht_lines.specs.Content.{attached_line, suppression_line, comment_line, other_line}
 use Rattle.ht_lines.specs.Fields.{fields, field_ends}
 use Rattle.ht_lines.specs.SizedText.{text_of}
 use Rattle.ht_lines.specs.ModuleName.{module_name, IsModuleName}
-use Rattle.ht_lines.specs.Kinds.{
-  kinds,
-  table_kinds,
-  is_kind,
-  is_foreign,
-  IsForeign,
-  IsOfKind,
-  IsOther,
-  HasWrongSecondByte,
-  after_kind,
-  plain_text,
-  fields_of,
-}
+use Rattle.ht_lines.specs.Kinds.{kinds, table_kinds, is_kind, is_foreign, IsForeign, IsOfKind, IsOther}
+use Rattle.ht_lines.specs.Kinds.{HasWrongSecondByte, after_kind, plain_text, fields_of}
 use Rattle.ht_lines.specs.Reads.{Reads}
-use Rattle.ht_lines.specs.Refuses.{
-  Refuses,
-  in_kind,
-  in_second_byte,
-  in_version,
-  in_system,
-  in_module,
-  in_instruction,
-  in_node,
-  in_info,
-  in_allocation,
-  in_free,
-  in_clock,
-  in_resident,
-  RefusesModule,
-  RefusesAllocation,
-  RefusesNumbers,
-}
-use Rattle.ht_lines.specs.Reading.{
-  one_number,
-  two_numbers,
-  say,
-  version_of,
-  instruction_of,
-  info_number,
-  three_numbers,
-  allocation_of,
-  free_of,
-  clock_from,
-  module_of,
-  named_module,
-  reading_kind,
-  reading,
-}
-use Rattle.ht_lines.proofs.CountedLines.{
-  one_number-sound,
-  one_number-item,
-  one_number-fault,
-  two_numbers-sound,
-  two_numbers-item,
-  two_numbers-fault,
-  info_number-sound,
-  info_number-item,
-  info_number-fault,
-  three_numbers-sound,
-  three_numbers-item,
-  three_numbers-fault,
-}
-use Rattle.ht_lines.proofs.VersionLines.{
-  SaysVersions,
-  version-sound,
-  version-item,
-  version-fault,
-  SaysClock,
-  clock-sound,
-  clock-item,
-  clock-fault,
-}
+use Rattle.ht_lines.specs.Refuses.{Refuses, in_kind, in_second_byte, in_version, in_system, in_module, in_instruction}
+use Rattle.ht_lines.specs.Refuses.{in_node, in_info, in_allocation, in_free, in_clock, in_resident, RefusesModule}
+use Rattle.ht_lines.specs.Refuses.{RefusesAllocation, RefusesNumbers}
+use Rattle.ht_lines.specs.Reading.{one_number, two_numbers, say, version_of, instruction_of, info_number, three_numbers}
+use Rattle.ht_lines.specs.Reading.{allocation_of, free_of, clock_from, module_of, named_module, reading_kind, reading}
+use Rattle.ht_lines.proofs.CountedLines.{one_number-sound, one_number-item, one_number-fault, two_numbers-sound}
+use Rattle.ht_lines.proofs.CountedLines.{two_numbers-item, two_numbers-fault, info_number-sound, info_number-item}
+use Rattle.ht_lines.proofs.CountedLines.{info_number-fault, three_numbers-sound, three_numbers-item}
+use Rattle.ht_lines.proofs.CountedLines.{three_numbers-fault}
+use Rattle.ht_lines.proofs.VersionLines.{SaysVersions, version-sound, version-item, version-fault, SaysClock}
+use Rattle.ht_lines.proofs.VersionLines.{clock-sound, clock-item, clock-fault}
 use Rattle.ht_lines.proofs.InstructionLines.{SaysInstruction, instruction-sound, instruction-item, instruction-fault}
 use Rattle.ht_lines.proofs.TextLemmas.{text_of-IsText, text_of-is}
 use Rattle.ht_lines.proofs.NameLemmas.{module_name-some, module_name-is, module_name-none, module_name-nothing}

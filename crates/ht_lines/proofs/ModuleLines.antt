@@ -1,37 +1,6 @@
 -- Lines of modules: both sides, and both ways.
-use Rattle.std.proofs.Common.{
-  ◌≡◌,
-  ◌≢◌,
-  ℕ,
-  suc,
-  ◌+◌,
-  ◌%◌,
-  ◌^◌,
-  Bool,
-  true,
-  false,
-  cond,
-  eqb,
-  ltb,
-  ◌&&◌,
-  List,
-  [],
-  ◌∷◌,
-  length,
-  map,
-  Result,
-  Ok,
-  Err,
-  MatchResult,
-  refl,
-  sym,
-  ap,
-  ◌∙◌,
-  inl,
-  inr,
-  arith,
-  ◌⊎◌,
-}
+use Rattle.std.proofs.Common.{◌≡◌, ◌≢◌, ℕ, suc, ◌+◌, ◌%◌, ◌^◌, Bool, true, false, cond, eqb, ltb, ◌&&◌, List, [], ◌∷◌}
+use Rattle.std.proofs.Common.{length, map, Result, Ok, Err, MatchResult, refl, sym, ap, ◌∙◌, inl, inr, arith, ◌⊎◌}
 use Rattle.std.specs.Prelude.{codes}
 use Rattle.std.specs.Str.{bytes_eq}
 use Rattle.std.proofs.lemmas.Bool.{ltb-true, false≢true}
@@ -39,26 +8,15 @@ use Rattle.std.proofs.lemmas.Bool.Decides.{eqb_tells}
 use Rattle.std.proofs.lemmas.Slice.Eq.{bytes_eq-Decides}
 use borrow.Author.Tests.{eqb-true, eq-eqb, ne_eqb, lt-ltb}
 use Rattle.ht_lines.specs.declared.item.Malformed.{Malformed}
-use Rattle.ht_lines.specs.declared.item.Malformed.TheVariants.{
-  BadField,
-  MissingField,
-  ExtraField,
-  NotInterpreted,
-  NotRaw,
-  BadVersion,
-}
+use Rattle.ht_lines.specs.declared.item.Malformed.TheVariants.{BadField, MissingField, ExtraField, NotInterpreted}
+use Rattle.ht_lines.specs.declared.item.Malformed.TheVariants.{NotRaw, BadVersion}
 use Rattle.ht_lines.specs.Content.{Content, clear_line, module_line}
 use Rattle.ht_lines.specs.Fields.{fields, AreNumbers, all_numbers, number}
 use Rattle.ht_lines.specs.Reads.{RangesFit}
 use Rattle.ht_lines.specs.Reading.{named_module, ranges_from, ranges_fit}
 use Rattle.hp_num.proofs.Laws.{and-true}
-use Rattle.ht_lines.proofs.NumberLemmas.{
-  AreNumbers-all,
-  all-AreNumbers,
-  AreNumbers-number,
-  not_all-AreNoNumbers,
-  AreNumbers-length,
-}
+use Rattle.ht_lines.proofs.NumberLemmas.{AreNumbers-all, all-AreNumbers, AreNumbers-number, not_all-AreNoNumbers}
+use Rattle.ht_lines.proofs.NumberLemmas.{AreNumbers-length}
 
 abbrev Tells : ℕ → ℕ → Type 0
 Tells a b = ((eqb a b ≡ true) × (a ≡ b)) ⊎ ((eqb a b ≡ false) × (a ≢ b))

@@ -1,37 +1,7 @@
 -- The names of modules: what the functions give is what the relations say.
-use Rattle.std.proofs.Common.{
-  ◌≡◌,
-  ◌≢◌,
-  ℕ,
-  Bool,
-  true,
-  false,
-  cond,
-  eqb,
-  leb,
-  List,
-  [],
-  ◌∷◌,
-  ◌++◌,
-  length,
-  take,
-  drop,
-  Option,
-  Some,
-  None,
-  IsTrue,
-  refl,
-  sym,
-  ap,
-  ◌∙◌,
-  subst,
-  inl,
-  inr,
-  arith,
-  ◌⊎◌,
-  length-append,
-  length-take,
-}
+use Rattle.std.proofs.Common.{◌≡◌, ◌≢◌, ℕ, Bool, true, false, cond, eqb, leb, List, [], ◌∷◌, ◌++◌, length, take, drop}
+use Rattle.std.proofs.Common.{Option, Some, None, IsTrue, refl, sym, ap, ◌∙◌, subst, inl, inr, arith, ◌⊎◌}
+use Rattle.std.proofs.Common.{length-append, length-take}
 use Rattle.std.specs.Option.{option_or}
 use Rattle.std.proofs.lemmas.Bool.{le-leb, leb-true}
 use Rattle.std.proofs.lemmas.Bool.Decides.{eqb_tells}
@@ -40,32 +10,13 @@ use Rattle.std.proofs.Math.Seq.{take-append_seam, drop-append_seam}
 use borrow.Author.Tests.{eq-eqb, ne_eqb}
 use Rattle.hp_num.specs.ParsedHex.{parsed_hex}
 use Rattle.ht_lines.specs.Fields.{fields, after_blanks, before_blank, first_field, after_field, field_ends}
-use Rattle.ht_lines.specs.ModuleName.{
-  IsSizedName,
-  IsPlainName,
-  IsModuleName,
-  of_size_in,
-  sized_name,
-  plain_name,
-  module_name,
-}
-use Rattle.ht_lines.proofs.FieldLemmas.{
-  from_blank-ends,
-  before_blank-from_blank,
-  fields-some,
-  fields-none,
-  first_field-some,
-}
+use Rattle.ht_lines.specs.ModuleName.{IsSizedName, IsPlainName, IsModuleName, of_size_in, sized_name, plain_name}
+use Rattle.ht_lines.specs.ModuleName.{module_name}
+use Rattle.ht_lines.proofs.FieldLemmas.{from_blank-ends, before_blank-from_blank, fields-some, fields-none}
+use Rattle.ht_lines.proofs.FieldLemmas.{first_field-some}
 use Rattle.ht_lines.proofs.NumberLemmas.{parsed_nothing, number-no_blank, number-not_empty}
-use Rattle.ht_lines.proofs.TextLemmas.{
-  NoBlank,
-  AllBlank,
-  first_field-at,
-  after_field-at,
-  before_blank-no_blank,
-  leading,
-  ends-blank,
-}
+use Rattle.ht_lines.proofs.TextLemmas.{NoBlank, AllBlank, first_field-at, after_field-at, before_blank-no_blank}
+use Rattle.ht_lines.proofs.TextLemmas.{leading, ends-blank}
 
 abbrev Tells : ℕ → ℕ → Type 0
 Tells a b = ((eqb a b ≡ true) × (a ≡ b)) ⊎ ((eqb a b ≡ false) × (a ≢ b))

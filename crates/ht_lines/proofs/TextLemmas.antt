@@ -1,49 +1,14 @@
 -- Sized and plain texts, and the names of modules: what the functions give is what the relations say.
-use Rattle.std.proofs.Common.{
-  ◌≡◌,
-  ◌≢◌,
-  ℕ,
-  ◌<◌,
-  Bool,
-  true,
-  false,
-  eqb,
-  List,
-  [],
-  ◌∷◌,
-  ◌++◌,
-  length,
-  Option,
-  Some,
-  None,
-  IsTrue,
-  refl,
-  sym,
-  ap,
-  ◌∙◌,
-  subst,
-  inl,
-  inr,
-  arith,
-  ◌⊎◌,
-  append-nil,
-}
+use Rattle.std.proofs.Common.{◌≡◌, ◌≢◌, ℕ, ◌<◌, Bool, true, false, eqb, List, [], ◌∷◌, ◌++◌, length, Option, Some, None}
+use Rattle.std.proofs.Common.{IsTrue, refl, sym, ap, ◌∙◌, subst, inl, inr, arith, ◌⊎◌, append-nil}
 use Rattle.std.specs.Prelude.{unwrap_or}
 use Rattle.std.specs.List.{AllByRecursion}
 use Rattle.std.proofs.lemmas.Bool.{false≢true}
 use Rattle.std.proofs.lemmas.Bool.Decides.{eqb_tells}
 use borrow.Author.Tests.{eqb-true, eq-eqb, ne_eqb}
 use Rattle.hp_num.specs.ParsedHex.{parsed_hex}
-use Rattle.ht_lines.specs.Fields.{
-  is_blank,
-  fields,
-  after_blanks,
-  before_blank,
-  from_blank,
-  first_field,
-  after_field,
-  field_ends,
-}
+use Rattle.ht_lines.specs.Fields.{is_blank, fields, after_blanks, before_blank, from_blank, first_field, after_field}
+use Rattle.ht_lines.specs.Fields.{field_ends}
 use Rattle.ht_lines.specs.SizedText.{IsSizedText, of_size, sized_text, text_of, IsText}
 use Rattle.ht_lines.proofs.FieldLemmas.{from_blank-ends, before_blank-from_blank, fields-blank, fields-before_blank}
 use Rattle.ht_lines.proofs.NumberLemmas.{number-no_blank, number-not_empty}

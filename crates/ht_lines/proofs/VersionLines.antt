@@ -1,47 +1,12 @@
 -- Lines of versions, of the clock and of instructions: both sides, and both ways.
-use Rattle.std.proofs.Common.{
-  ◌≡◌,
-  ℕ,
-  ◌^◌,
-  ◌<◌,
-  ◌≤◌,
-  Bool,
-  true,
-  false,
-  cond,
-  leb,
-  ◌&&◌,
-  List,
-  [],
-  ◌∷◌,
-  Option,
-  Some,
-  None,
-  Result,
-  Ok,
-  Err,
-  MatchResult,
-  refl,
-  sym,
-  ap,
-  ◌∙◌,
-  inl,
-  inr,
-  arith,
-  ◌⊎◌,
-}
+use Rattle.std.proofs.Common.{◌≡◌, ℕ, ◌^◌, ◌<◌, ◌≤◌, Bool, true, false, cond, leb, ◌&&◌, List, [], ◌∷◌, Option, Some}
+use Rattle.std.proofs.Common.{None, Result, Ok, Err, MatchResult, refl, sym, ap, ◌∙◌, inl, inr, arith, ◌⊎◌}
 use Rattle.std.proofs.lemmas.Bool.{le-leb}
 use Rattle.std.proofs.lemmas.Bool.Decides.{leb_tells}
 use Rattle.hp_num.specs.ParsedHex.{parsed_hex}
 use Rattle.ht_lines.specs.declared.item.Malformed.{Malformed}
-use Rattle.ht_lines.specs.declared.item.Malformed.TheVariants.{
-  BadField,
-  MissingField,
-  ExtraField,
-  NotInterpreted,
-  NotRaw,
-  BadVersion,
-}
+use Rattle.ht_lines.specs.declared.item.Malformed.TheVariants.{BadField, MissingField, ExtraField, NotInterpreted}
+use Rattle.ht_lines.specs.declared.item.Malformed.TheVariants.{NotRaw, BadVersion}
 use Rattle.ht_lines.specs.Content.{Content, version_line, clock_line}
 use Rattle.ht_lines.specs.Fields.{AreNumbers}
 use Rattle.ht_lines.specs.Refuses.{AreNoNumbers, RefusesNumbers, RefusesVersion, RefusesClock}

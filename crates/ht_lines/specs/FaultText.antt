@@ -1,14 +1,8 @@
 -- What the faults of a line are called.
 use Rattle.std.specs.Prelude.{ℕ, List, codes}
 use Rattle.ht_lines.specs.declared.item.Malformed.{Malformed}
-use Rattle.ht_lines.specs.declared.item.Malformed.TheVariants.{
-  BadField,
-  MissingField,
-  ExtraField,
-  NotInterpreted,
-  NotRaw,
-  BadVersion,
-}
+use Rattle.ht_lines.specs.declared.item.Malformed.TheVariants.{BadField, MissingField, ExtraField, NotInterpreted}
+use Rattle.ht_lines.specs.declared.item.Malformed.TheVariants.{NotRaw, BadVersion}
 
 abbrev pub fault_text : Malformed → List ℕ
 fault_text BadField = codes "bad field"

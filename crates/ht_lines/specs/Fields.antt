@@ -1,23 +1,7 @@
 -- The fields of a text, and the numbers that they are. Fields are the pieces between blanks that
 -- aren't empty.
-use Rattle.std.specs.Prelude.{
-  ◌≡◌,
-  ℕ,
-  Bool,
-  true,
-  ◌==◌,
-  if◌then◌else◌,
-  List,
-  [],
-  ◌∷◌,
-  length,
-  nat_lt,
-  filter,
-  map,
-  Some,
-  is_some,
-  unwrap_or,
-}
+use Rattle.std.specs.Prelude.{◌≡◌, ℕ, Bool, true, ◌==◌, if◌then◌else◌, List, [], ◌∷◌, length, nat_lt, filter, map, Some}
+use Rattle.std.specs.Prelude.{is_some, unwrap_or}
 use Rattle.std.specs.List.{slice_split, list_all}
 use Rattle.hp_num.specs.ParsedHex.{parsed_hex}
 

@@ -2,52 +2,14 @@
 -- the fields before it.
 use Rattle.std.specs.Prelude.{◌≡◌, ℕ, ◌+◌, ◌*◌, List, length, IsTrue, IfSome, Result, Ok, Err}
 use Rattle.ht_lines.specs.declared.item.Item.{Item}
-use Rattle.ht_lines.specs.declared.item.Item.TheVariants.{
-  Version,
-  Executable,
-  Command,
-  System,
-  Str,
-  ModuleClear,
-  Module,
-  Instr,
-  Node,
-  Info,
-  Alloc,
-  Free,
-  RawAlloc,
-  RawFree,
-  Clock,
-  Rss,
-  Attached,
-  Suppress,
-  Comment,
-  Other,
-}
+use Rattle.ht_lines.specs.declared.item.Item.TheVariants.{Version, Executable, Command, System, Str, ModuleClear}
+use Rattle.ht_lines.specs.declared.item.Item.TheVariants.{Module, Instr, Node, Info, Alloc, Free, RawAlloc, RawFree}
+use Rattle.ht_lines.specs.declared.item.Item.TheVariants.{Clock, Rss, Attached, Suppress, Comment, Other}
 use Rattle.ht_lines.specs.declared.item.Malformed.{Malformed}
-use Rattle.ht_lines.specs.Content.{
-  Content,
-  version_line,
-  executable_line,
-  command_line,
-  system_line,
-  string_line,
-  clear_line,
-  module_line,
-  instruction_line,
-  node_line,
-  info_line,
-  allocation_line,
-  free_line,
-  raw_allocation_line,
-  raw_free_line,
-  clock_line,
-  resident_line,
-  attached_line,
-  suppression_line,
-  comment_line,
-  other_line,
-}
+use Rattle.ht_lines.specs.Content.{Content, version_line, executable_line, command_line, system_line, string_line}
+use Rattle.ht_lines.specs.Content.{clear_line, module_line, instruction_line, node_line, info_line, allocation_line}
+use Rattle.ht_lines.specs.Content.{free_line, raw_allocation_line, raw_free_line, clock_line, resident_line}
+use Rattle.ht_lines.specs.Content.{attached_line, suppression_line, comment_line, other_line}
 use Rattle.ht_lines.specs.Fields.{after_field, fields, numbers, all_numbers}
 use Rattle.ht_lines.specs.ModuleName.{module_name}
 

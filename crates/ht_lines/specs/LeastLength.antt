@@ -1,20 +1,8 @@
 -- A line that says something has at least so many bytes.
 use Rattle.std.specs.Prelude.{ℕ}
-use Rattle.ht_lines.specs.Content.{
-  Content,
-  version_line,
-  system_line,
-  instruction_line,
-  node_line,
-  info_line,
-  allocation_line,
-  free_line,
-  raw_allocation_line,
-  raw_free_line,
-  clock_line,
-  resident_line,
-  other_line,
-}
+use Rattle.ht_lines.specs.Content.{Content, version_line, system_line, instruction_line, node_line, info_line}
+use Rattle.ht_lines.specs.Content.{allocation_line, free_line, raw_allocation_line, raw_free_line, clock_line}
+use Rattle.ht_lines.specs.Content.{resident_line, other_line}
 
 -- the kind, and in a line of numbers alone a blank and a digit for each field that it has in any case
 abbrev pub least_length : Content → ℕ

@@ -1,28 +1,8 @@
 -- The name of a module in what follows the kind of its line, and the tail after the name. The name
 -- of a module is the bytes after its size, in file version 3 where a size stands there that fits,
 -- and else the first field.
-use Rattle.std.specs.Prelude.{
-  ◌≡◌,
-  ◌≢◌,
-  ◌⊎◌,
-  ℕ,
-  ◌<◌,
-  ◌==◌,
-  ◌&&◌,
-  if◌then◌else◌,
-  List,
-  [],
-  ◌∷◌,
-  ◌++◌,
-  length,
-  take,
-  drop,
-  nat_le,
-  Option,
-  Some,
-  None,
-  IsTrue,
-}
+use Rattle.std.specs.Prelude.{◌≡◌, ◌≢◌, ◌⊎◌, ℕ, ◌<◌, ◌==◌, ◌&&◌, if◌then◌else◌, List, [], ◌∷◌, ◌++◌, length, take, drop}
+use Rattle.std.specs.Prelude.{nat_le, Option, Some, None, IsTrue}
 use Rattle.std.specs.Option.{option_or}
 use Rattle.std.specs.List.{AllByRecursion}
 use Rattle.hp_num.specs.ParsedHex.{parsed_hex}

@@ -1,15 +1,7 @@
 -- A text is of one line where it has no line feed, and what a line says has such texts.
 use Rattle.std.specs.Prelude.{◌≢◌, ℕ, List, All}
-use Rattle.ht_lines.specs.Content.{
-  Content,
-  executable_line,
-  command_line,
-  string_line,
-  module_line,
-  suppression_line,
-  comment_line,
-  other_line,
-}
+use Rattle.ht_lines.specs.Content.{Content, executable_line, command_line, string_line, module_line, suppression_line}
+use Rattle.ht_lines.specs.Content.{comment_line, other_line}
 
 -- the text has no line feed
 abbrev pub IsOneLine : List ℕ → Type 0

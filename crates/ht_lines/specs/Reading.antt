@@ -1,68 +1,18 @@
 -- The content of a line of a trace of a form, or its fault, as a function of the line: what `Reads` and `Refuses`
 -- determine.
-use Rattle.std.specs.Prelude.{
-  ℕ,
-  ◌+◌,
-  ◌%◌,
-  ◌^◌,
-  Bool,
-  true,
-  ◌==◌,
-  ◌&&◌,
-  ◌||◌,
-  if◌then◌else◌,
-  List,
-  [],
-  ◌∷◌,
-  length,
-  drop,
-  map,
-  nat_lt,
-  nat_le,
-  codes,
-  Option,
-  Some,
-  None,
-  Result,
-  Ok,
-  Err,
-}
+use Rattle.std.specs.Prelude.{ℕ, ◌+◌, ◌%◌, ◌^◌, Bool, true, ◌==◌, ◌&&◌, ◌||◌, if◌then◌else◌, List, [], ◌∷◌, length}
+use Rattle.std.specs.Prelude.{drop, map, nat_lt, nat_le, codes, Option, Some, None, Result, Ok, Err}
 use Rattle.std.specs.Str.{bytes_eq}
 use Rattle.hp_num.specs.ParsedHex.{parsed_hex}
 use Rattle.ht_lines.specs.declared.item.Malformed.{Malformed}
-use Rattle.ht_lines.specs.declared.item.Malformed.TheVariants.{
-  BadField,
-  MissingField,
-  ExtraField,
-  NotInterpreted,
-  NotRaw,
-  BadVersion,
-}
+use Rattle.ht_lines.specs.declared.item.Malformed.TheVariants.{BadField, MissingField, ExtraField, NotInterpreted}
+use Rattle.ht_lines.specs.declared.item.Malformed.TheVariants.{NotRaw, BadVersion}
 use Rattle.ht_lines.specs.declared.item.Form.{Form}
 use Rattle.ht_lines.specs.declared.item.Form.TheVariants.{Raw, Interpreted}
-use Rattle.ht_lines.specs.Content.{
-  Content,
-  version_line,
-  executable_line,
-  command_line,
-  system_line,
-  string_line,
-  clear_line,
-  module_line,
-  instruction_line,
-  node_line,
-  info_line,
-  allocation_line,
-  free_line,
-  raw_allocation_line,
-  raw_free_line,
-  clock_line,
-  resident_line,
-  attached_line,
-  suppression_line,
-  comment_line,
-  other_line,
-}
+use Rattle.ht_lines.specs.Content.{Content, version_line, executable_line, command_line, system_line, string_line}
+use Rattle.ht_lines.specs.Content.{clear_line, module_line, instruction_line, node_line, info_line, allocation_line}
+use Rattle.ht_lines.specs.Content.{free_line, raw_allocation_line, raw_free_line, clock_line, resident_line}
+use Rattle.ht_lines.specs.Content.{attached_line, suppression_line, comment_line, other_line}
 use Rattle.ht_lines.specs.Fields.{fields, field_ends, all_numbers, number}
 use Rattle.ht_lines.specs.SizedText.{text_of}
 use Rattle.ht_lines.specs.ModuleName.{module_name}

@@ -1,10 +1,12 @@
 -- Lemmas on texts in buckets, as they come one after another and as a bucket is read.
-use Rattle.std.proofs.Common.{◌≡◌, ◌≢◌, ℕ, zero, suc, ◌+◌, ◌*◌, ◌%◌, ◌<◌, ◌≤◌, inl, inr, eqb, Bool, true, false, List, [], ◌∷◌, ◌++◌, length, map, set, get_or, take, Some, refl, sym, ap, ◌∙◌, subst, arith}
+use Rattle.std.proofs.Common.{◌≡◌, ◌≢◌, ℕ, zero, suc, ◌+◌, ◌*◌, ◌%◌, ◌<◌, ◌≤◌, inl, inr, eqb, Bool, true, false, List}
+use Rattle.std.proofs.Common.{[], ◌∷◌, ◌++◌, length, map, set, get_or, take, Some, refl, sym, ap, ◌∙◌, subst, arith}
 use Rattle.std.specs.Prelude.{All, slice_get, slice_index}
 use Rattle.std.proofs.lemmas.Bool.{cases_lt}
 use Rattle.std.proofs.lemmas.Bool.Decides.{nat_tests}
 use Rattle.std.proofs.lemmas.Grind.{get_or-set_at}
-use Rattle.std.proofs.lemmas.List.{get_or_append_left, get_or_default, get_or-set_other, length-map, length-set, length_push, map_push, take_more}
+use Rattle.std.proofs.lemmas.List.{get_or_append_left, get_or_default, get_or-set_other, length-map, length-set}
+use Rattle.std.proofs.lemmas.List.{length_push, map_push, take_more}
 use Rattle.std.proofs.lemmas.List.Elements.{All-push}
 use Rattle.std.proofs.lemmas.List.Quantifiers.{all_pairs_push}
 use Rattle.std.proofs.lemmas.Option.{same_Some, slice_get-get_or, slice_get_within}
@@ -13,7 +15,8 @@ use Rattle.hp_num.proofs.Laws.{slice_get-end, slice_get-front}
 use Rattle.intern_tables.specs.Distinct.{AreDistinct}
 use Rattle.ht_trace.specs.TableState.{TableState}
 use Rattle.ht_print.specs.declared.place_table.PlaceTable.{PlaceTable}
-use Rattle.ht_print.specs.PlaceTable.{AreBucketed, AreKnown, IsLastIn, IsTable, bucket_of, buckets_of, hash_from, names_of}
+use Rattle.ht_print.specs.PlaceTable.{AreBucketed, AreKnown, IsLastIn, IsTable, bucket_of, buckets_of, hash_from}
+use Rattle.ht_print.specs.PlaceTable.{names_of}
 use Rattle.ht_print.specs.ReportGroups.{place_of}
 use Rattle.ht_print.proofs.PlaceLemmas.{known-stays, none-known}
 

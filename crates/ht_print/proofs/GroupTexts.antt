@@ -1,5 +1,6 @@
 -- Lemmas on the groups of stacks: their bounds, and their lines.
-use Rattle.std.proofs.Common.{◌≡◌, ℕ, zero, suc, ◌<◌, ◌≤◌, inl, inr, cond, not, Bool, true, false, List, [], ◌∷◌, filter, length, map, take_all, get_or, refl, sym, ap, ◌∙◌, subst, arith}
+use Rattle.std.proofs.Common.{◌≡◌, ℕ, zero, suc, ◌<◌, ◌≤◌, inl, inr, cond, not, Bool, true, false, List, [], ◌∷◌}
+use Rattle.std.proofs.Common.{filter, length, map, take_all, get_or, refl, sym, ap, ◌∙◌, subst, arith}
 use Rattle.std.specs.Prelude.{All, min, sum_by}
 use Rattle.std.specs.Str.{bytes_eq}
 use Rattle.std.proofs.lemmas.Bool.{cases_lt}

@@ -1,5 +1,7 @@
 -- Patterns without those that begin with another, as they are gathered in order, and what a search among them finds.
-use Rattle.std.proofs.Common.{◌≡◌, ℕ, zero, suc, ◌+◌, ◌-◌, ◌<◌, ◌≤◌, ◌||◌, ◌⊎◌, inl, inr, Bool, true, false, Less, Equal, Greater, List, [], ◌∷◌, ◌++◌, length, take, drop, get_or, refl, sym, ap, subst, ◌∙◌, arith, length-append, append-nil, true≢false}
+use Rattle.std.proofs.Common.{◌≡◌, ℕ, zero, suc, ◌+◌, ◌-◌, ◌<◌, ◌≤◌, ◌||◌, ◌⊎◌, inl, inr, Bool, true, false, Less}
+use Rattle.std.proofs.Common.{Equal, Greater, List, [], ◌∷◌, ◌++◌, length, take, drop, get_or, refl, sym, ap, subst}
+use Rattle.std.proofs.Common.{◌∙◌, arith, length-append, append-nil, true≢false}
 use Rattle.std.specs.Prelude.{Option, unwrap_or}
 use Rattle.std.specs.Option.{option_map}
 use Rattle.std.specs.List.{AllWithin, list_any, range_with_len}
@@ -16,7 +18,8 @@ use Rattle.std.proofs.lemmas.Option.{slice_get-get_or}
 use Rattle.memchr.specs.Find.{occurs_at}
 use Rattle.ht_print.specs.LeastPatterns.{AreApart, begins, begins_any, begins_last}
 use Rattle.ht_print.specs.Suppressed.{meets_any, stands_in}
-use Rattle.ht_print.proofs.Prefixes.{behind-none, begins-same, begins-through, between-begins, occurs-begins, other-side}
+use Rattle.ht_print.proofs.Prefixes.{behind-none, begins-same, begins-through, between-begins, occurs-begins}
+use Rattle.ht_print.proofs.Prefixes.{other-side}
 
 or-true : (b : Bool) → (b || true) ≡ true
 or-true true = refl

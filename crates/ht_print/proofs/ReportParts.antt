@@ -15,7 +15,8 @@ use Rattle.ht_print.specs.FlameCosts.{flame_costs, trace_costs}
 use Rattle.ht_print.specs.declared.sections.Section.{Section}
 use Rattle.ht_print.specs.declared.sections.Section.TheVariants.{Calls, Peak, Leaks, Temporary}
 use Rattle.ht_print.specs.Layouts.{HasReportPlaces, HasSectionPlaces}
-use Rattle.ht_print.specs.ReportText.{section_body, section_lines, sections_text, suppressed_figures, suppressed_line, unsuppressed, wanted_section}
+use Rattle.ht_print.specs.ReportText.{section_body, section_lines, sections_text, suppressed_figures, suppressed_line}
+use Rattle.ht_print.specs.ReportText.{unsuppressed, wanted_section}
 use Rattle.ht_print.specs.Sections.{all_sections, is_wanted, leaves_out, unit_of}
 use Rattle.ht_print.specs.Suppressed.{suppressed_stacks}
 use Rattle.ht_print.proofs.FlameFigures.{costs-of_trace}

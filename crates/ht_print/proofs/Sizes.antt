@@ -1,5 +1,6 @@
 -- Sums over infos as they are read one after another.
-use Rattle.std.proofs.Common.{zero, suc, ◌≡◌, ℕ, ◌+◌, ◌*◌, ◌<◌, ◌≤◌, List, [], ◌∷◌, length, get_or, take, cond, Option, Some, None, refl, sym, ap, ◌∙◌, add-one, rules, arith}
+use Rattle.std.proofs.Common.{zero, suc, ◌≡◌, ℕ, ◌+◌, ◌*◌, ◌<◌, ◌≤◌, List, [], ◌∷◌, length, get_or, take, cond, Option}
+use Rattle.std.proofs.Common.{Some, None, refl, sym, ap, ◌∙◌, add-one, rules, arith}
 use Rattle.std.specs.Prelude.{sum, sum_by, slice_index}
 use Rattle.std.proofs.Math.Nat.{mul-le-mul_right}
 use Rattle.std.specs.List.{zip}
@@ -10,7 +11,8 @@ use Rattle.live_ledger.specs.declared.event.Event.{Event}
 use Rattle.live_ledger.specs.declared.event.Event.TheVariants.{Alloc, Free, Tick}
 use Rattle.live_ledger.specs.ByInfo.{alloc_weight, weighed}
 use Rattle.live_ledger.specs.LedgerState.{HeldInfo, LedgerState}
-use Rattle.ht_print.specs.Histogram.{allocations, allocations_at, histogram_lines, histogram_text, is_alloc_in_range, large_ranges, small_ranges, weight}
+use Rattle.ht_print.specs.Histogram.{allocations, allocations_at, histogram_lines, histogram_text, is_alloc_in_range}
+use Rattle.ht_print.specs.Histogram.{large_ranges, small_ranges, weight}
 
 -- the sum over the first infos
 abbrev pub weighed-first : (HeldInfo → ℕ) → List HeldInfo → List ℕ → ℕ → ℕ

@@ -1,7 +1,8 @@
 -- The flame stacks of a front are its line, where the stacks that are it have a sum other than 0,
 -- and then those of each of its next fronts. A line is the front's texts with `;` between them and
 -- `:` for each `;` in them, a blank, the sum and a line feed.
-use Rattle.std.specs.Prelude.{◌≡◌, ℕ, zero, suc, ◌==◌, if◌then◌else◌, List, [], ◌∷◌, ◌++◌, codes, ◌+◌, decimal, length, map}
+use Rattle.std.specs.Prelude.{◌≡◌, ℕ, zero, suc, ◌==◌, if◌then◌else◌, List, [], ◌∷◌, ◌++◌, codes, ◌+◌, decimal, length}
+use Rattle.std.specs.Prelude.{map}
 use Rattle.std.specs.List.{flat_map}
 use Rattle.stack_table.specs.Stack.{most_frames}
 use Rattle.cost_tree.specs.Costed.{Costed, costed}

@@ -1,6 +1,7 @@
 -- How many allocations of a trace have which size, and the text that tells it. The histogram counts
 -- in each range the allocations whose size is in it.
-use Rattle.std.specs.Prelude.{◌≡◌, ℕ, ◌*◌, List, ◌++◌, ◌&&◌, Bool, false, Option, Some, None, codes, count_by, decimal, nat_le, slice_get, slice_index, if◌then◌else◌}
+use Rattle.std.specs.Prelude.{◌≡◌, ℕ, ◌*◌, List, ◌++◌, ◌&&◌, Bool, false, Option, Some, None, codes, count_by, decimal}
+use Rattle.std.specs.Prelude.{nat_le, slice_get, slice_index, if◌then◌else◌}
 use Rattle.live_ledger.specs.declared.event.Event.{Event}
 use Rattle.live_ledger.specs.declared.event.Event.TheVariants.{Alloc, Free, Tick}
 use Rattle.live_ledger.specs.ByInfo.{weighed}

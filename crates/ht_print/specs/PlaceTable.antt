@@ -1,6 +1,7 @@
 -- The table of places: texts in buckets, and the instructions whose places are known, for private
 -- clauses.
-use Rattle.std.specs.Prelude.{◌≡◌, ◌≢◌, ℕ, suc, ◌+◌, ◌*◌, ◌%◌, ◌-◌, ◌^◌, ◌<◌, ◌≤◌, All, List, [], ◌∷◌, Some, length, map, slice_get, slice_index}
+use Rattle.std.specs.Prelude.{◌≡◌, ◌≢◌, ℕ, suc, ◌+◌, ◌*◌, ◌%◌, ◌-◌, ◌^◌, ◌<◌, ◌≤◌, All, List, [], ◌∷◌, Some, length}
+use Rattle.std.specs.Prelude.{map, slice_get, slice_index}
 use Rattle.intern_tables.specs.Distinct.{AreDistinct}
 use Rattle.ht_trace.specs.declared.frame.Style.TheVariants.{Plain}
 use Rattle.ht_trace.specs.FrameText.{frame_text}

@@ -1,5 +1,6 @@
 -- The stacks of a section by the numbers of their places, for private clauses.
-use Rattle.std.specs.Prelude.{◌≡◌, ℕ, ◌+◌, ◌-◌, ◌<◌, ◌≤◌, ◌==◌, ◌^◌, ◌++◌, All, List, Some, codes, filter, length, map, slice_get, slice_index, sum_by, take}
+use Rattle.std.specs.Prelude.{◌≡◌, ℕ, ◌+◌, ◌-◌, ◌<◌, ◌≤◌, ◌==◌, ◌^◌, ◌++◌, All, List, Some, codes, filter, length, map}
+use Rattle.std.specs.Prelude.{slice_get, slice_index, sum_by, take}
 use Rattle.std.specs.List.{flat_map}
 use Rattle.ht_trace.specs.TableState.{TableState}
 use Rattle.ht_print.specs.declared.entry.Entry.{Entry}

@@ -1,6 +1,7 @@
 -- The order of a report's entries, which are stacks or groups of them. Entries stand by descending
 -- figure, those with one figure by ascending number of the stack.
-use Rattle.std.specs.Prelude.{ℕ, ◌==◌, ◌&&◌, ◌||◌, Bool, List, [], ◌∷◌, filter, length, map, nat_lt, slice_index, if◌then◌else◌}
+use Rattle.std.specs.Prelude.{ℕ, ◌==◌, ◌&&◌, ◌||◌, Bool, List, [], ◌∷◌, filter, length, map, nat_lt, slice_index}
+use Rattle.std.specs.Prelude.{if◌then◌else◌}
 use Rattle.std.specs.List.{range_with_len}
 use Rattle.ht_print.specs.declared.entry.Entry.{Entry}
 

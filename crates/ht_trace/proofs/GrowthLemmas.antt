@@ -1,36 +1,7 @@
 -- Tables that grow: what is held stays.
-use Rattle.std.proofs.Common.{
-  ◌≡◌,
-  ℕ,
-  zero,
-  suc,
-  ◌-◌,
-  ◌<◌,
-  ◌≤◌,
-  Bool,
-  false,
-  cond,
-  eqb,
-  List,
-  [],
-  ◌∷◌,
-  ◌++◌,
-  length,
-  Option,
-  Some,
-  None,
-  refl,
-  sym,
-  ap,
-  ◌∙◌,
-  arith,
-  subst,
-  ◌⊎◌,
-  inl,
-  inr,
-  append-nil,
-  append_assoc,
-}
+use Rattle.std.proofs.Common.{◌≡◌, ℕ, zero, suc, ◌-◌, ◌<◌, ◌≤◌, Bool, false, cond, eqb, List, [], ◌∷◌, ◌++◌, length}
+use Rattle.std.proofs.Common.{Option, Some, None, refl, sym, ap, ◌∙◌, arith, subst, ◌⊎◌, inl, inr, append-nil}
+use Rattle.std.proofs.Common.{append_assoc}
 use Rattle.std.specs.Prelude.{◌==◌, if◌then◌else◌, codes, decimal, option_and_then, slice_get, unwrap_or}
 use Rattle.std.specs.Option.{option_map, option_or, option_to_list}
 use Rattle.std.specs.List.{AllByRecursion}
@@ -38,16 +9,8 @@ use Rattle.std.specs.Prelude.{Result, Ok, Err, IfErr, IfOk, OnOk, OnErr}
 use Rattle.std.proofs.lemmas.Bool.{cases_lt}
 use Rattle.std.proofs.lemmas.Bool.Decides.{nat_tests}
 use Rattle.std.proofs.lemmas.Option.{same_Some, slice_get_past}
-use Rattle.ht_lines.specs.Content.{
-  Content,
-  version_line,
-  command_line,
-  string_line,
-  instruction_line,
-  node_line,
-  info_line,
-  suppression_line,
-}
+use Rattle.ht_lines.specs.Content.{Content, version_line, command_line, string_line, instruction_line, node_line}
+use Rattle.ht_lines.specs.Content.{info_line, suppression_line}
 use Rattle.hp_num.proofs.Laws.{slice_get-front}
 use Rattle.stack_table.proofs.Laws as nodes
 use Rattle.ht_trace.specs.declared.frame.Frame.{Frame}
@@ -55,19 +18,8 @@ use Rattle.ht_trace.specs.declared.frame.FrameAt.{FrameAt}
 use Rattle.ht_trace.specs.declared.frame.FrameFound.{FrameFound}
 use Rattle.ht_trace.specs.declared.frame.Style.{Style}
 use Rattle.ht_trace.specs.Continues.{Continues, Extends, IsGrown}
-use Rattle.ht_trace.specs.FrameText.{
-  address_text,
-  frame_at,
-  frame_of,
-  frame_text,
-  found_text,
-  function_at,
-  in_module,
-  no_name,
-  string_at,
-  text_at,
-  text_of,
-}
+use Rattle.ht_trace.specs.FrameText.{address_text, frame_at, frame_of, frame_text, found_text, function_at, in_module}
+use Rattle.ht_trace.specs.FrameText.{no_name, string_at, text_at, text_of}
 use Rattle.ht_trace.specs.declared.error.LineError.{LineError}
 use Rattle.ht_trace.specs.declared.step.Step.{Step}
 use Rattle.ht_trace.specs.FramesSaid.{frames_said}

@@ -1,53 +1,13 @@
 -- What one line more adds to the lists of a trace.
-use Rattle.std.proofs.Common.{
-  ◌≡◌,
-  ℕ,
-  true,
-  List,
-  [],
-  ◌∷◌,
-  ◌++◌,
-  Option,
-  Some,
-  None,
-  Ok,
-  refl,
-  sym,
-  ap,
-  ◌∙◌,
-  arith,
-  append_assoc,
-  append-nil,
-  length,
-  length-append,
-  subst,
-}
+use Rattle.std.proofs.Common.{◌≡◌, ℕ, true, List, [], ◌∷◌, ◌++◌, Option, Some, None, Ok, refl, sym, ap, ◌∙◌, arith}
+use Rattle.std.proofs.Common.{append_assoc, append-nil, length, length-append, subst}
 use Rattle.std.specs.Prelude.{◌||◌, is_some, slice_get, unwrap_or}
 use Rattle.std.specs.Option.{option_or, option_to_list}
 use Rattle.std.specs.List.{filter_map}
-use Rattle.ht_lines.specs.Content.{
-  Content,
-  version_line,
-  executable_line,
-  command_line,
-  system_line,
-  string_line,
-  clear_line,
-  module_line,
-  instruction_line,
-  node_line,
-  info_line,
-  allocation_line,
-  free_line,
-  raw_allocation_line,
-  raw_free_line,
-  clock_line,
-  resident_line,
-  attached_line,
-  suppression_line,
-  comment_line,
-  other_line,
-}
+use Rattle.ht_lines.specs.Content.{Content, version_line, executable_line, command_line, system_line, string_line}
+use Rattle.ht_lines.specs.Content.{clear_line, module_line, instruction_line, node_line, info_line, allocation_line}
+use Rattle.ht_lines.specs.Content.{free_line, raw_allocation_line, raw_free_line, clock_line, resident_line}
+use Rattle.ht_lines.specs.Content.{attached_line, suppression_line, comment_line, other_line}
 use Rattle.ht_lines.specs.declared.item.Form.TheVariants.{Interpreted}
 use Rattle.ht_lines.specs.Reading.{reading}
 use Rattle.live_ledger.specs.LedgerState.{HeldInfo}
@@ -68,20 +28,8 @@ use Rattle.ht_trace.proofs.Growing.{filter_map-push, first-push, gathered-push, 
 use Rattle.ht_trace.proofs.VersionLemmas.{Reads, reads-by}
 use Rattle.ht_trace.specs.LedgerFits.{Grows}
 use Rattle.ht_trace.specs.TraceEvents.{events}
-use Rattle.ht_trace.specs.TraceLists.{
-  strings,
-  string_in,
-  instructions,
-  instruction_in,
-  nodes,
-  node_in,
-  infos,
-  info_in,
-  command,
-  command_in,
-  patterns,
-  pattern_in,
-}
+use Rattle.ht_trace.specs.TraceLists.{strings, string_in, instructions, instruction_in, nodes, node_in, infos, info_in}
+use Rattle.ht_trace.specs.TraceLists.{command, command_in, patterns, pattern_in}
 
 -- the tables with these lists
 abbrev tables_from : List (List ℕ) → Option ℕ → List Content → TableState

@@ -1,28 +1,6 @@
 -- What one line more says, in a trace of either form, and in which file version it is read.
-use Rattle.std.proofs.Common.{
-  ◌≡◌,
-  ℕ,
-  true,
-  false,
-  eqb,
-  List,
-  [],
-  ◌∷◌,
-  ◌++◌,
-  Option,
-  Some,
-  None,
-  Result,
-  Ok,
-  refl,
-  sym,
-  ap,
-  ◌∙◌,
-  ◌⊎◌,
-  inl,
-  inr,
-  arith,
-}
+use Rattle.std.proofs.Common.{◌≡◌, ℕ, true, false, eqb, List, [], ◌∷◌, ◌++◌, Option, Some, None, Result, Ok, refl, sym}
+use Rattle.std.proofs.Common.{ap, ◌∙◌, ◌⊎◌, inl, inr, arith}
 use Rattle.std.specs.Prelude.{◌||◌, is_some, option_and_then, slice_get, unwrap_or}
 use Rattle.std.specs.Option.{option_or, option_to_list}
 use Rattle.std.specs.Result.{result_ok}

@@ -5,18 +5,9 @@ use Rattle.ht_lines.specs.declared.item.Malformed.TheVariants as grammar
 use Rattle.stack_table.specs.declared.fault.NodeFault.{NodeFault}
 use Rattle.stack_table.specs.declared.fault.NodeFault.TheVariants as node
 use Rattle.ht_trace.specs.declared.error.LineError.{LineError}
-use Rattle.ht_trace.specs.declared.error.LineError.TheVariants.{
-  BadField,
-  MissingField,
-  ExtraField,
-  NotInterpreted,
-  NotRaw,
-  BadVersion,
-  UnknownParent,
-  TooDeep,
-  TooMany,
-  NoMemory,
-}
+use Rattle.ht_trace.specs.declared.error.LineError.TheVariants.{BadField, MissingField, ExtraField, NotInterpreted}
+use Rattle.ht_trace.specs.declared.error.LineError.TheVariants.{NotRaw, BadVersion, UnknownParent, TooDeep, TooMany}
+use Rattle.ht_trace.specs.declared.error.LineError.TheVariants.{NoMemory}
 
 -- the grammar's refusal
 abbrev pub of_malformed : Malformed → LineError

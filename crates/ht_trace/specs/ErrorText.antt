@@ -1,24 +1,11 @@
 -- What the errors of a line are called.
 use Rattle.std.specs.Prelude.{ℕ, List, codes}
 use Rattle.ht_trace.specs.declared.error.LineError.{LineError}
-use Rattle.ht_trace.specs.declared.error.LineError.TheVariants.{
-  BadField,
-  MissingField,
-  ExtraField,
-  NotInterpreted,
-  NotRaw,
-  BadVersion,
-  NoVersion,
-  SecondVersion,
-  UnknownString,
-  UnknownInstruction,
-  UnknownParent,
-  UnknownTrace,
-  UnknownAllocation,
-  TooDeep,
-  TooMany,
-  NoMemory,
-}
+use Rattle.ht_trace.specs.declared.error.LineError.TheVariants.{BadField, MissingField, ExtraField, NotInterpreted}
+use Rattle.ht_trace.specs.declared.error.LineError.TheVariants.{NotRaw, BadVersion, NoVersion, SecondVersion}
+use Rattle.ht_trace.specs.declared.error.LineError.TheVariants.{UnknownString, UnknownInstruction, UnknownParent}
+use Rattle.ht_trace.specs.declared.error.LineError.TheVariants.{UnknownTrace, UnknownAllocation, TooDeep, TooMany}
+use Rattle.ht_trace.specs.declared.error.LineError.TheVariants.{NoMemory}
 
 abbrev pub error_text : LineError → List ℕ
 error_text BadField = codes "bad field"

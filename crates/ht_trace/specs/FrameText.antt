@@ -1,23 +1,7 @@
 -- The text of a frame is its function's name, then its file and line, or else its module; the
 -- address stands in front in the addressed style.
-use Rattle.std.specs.Prelude.{
-  ◌≡◌,
-  ℕ,
-  ◌==◌,
-  ◌-◌,
-  if◌then◌else◌,
-  List,
-  [],
-  ◌++◌,
-  codes,
-  decimal,
-  Option,
-  Some,
-  None,
-  option_and_then,
-  slice_get,
-  unwrap_or,
-}
+use Rattle.std.specs.Prelude.{◌≡◌, ℕ, ◌==◌, ◌-◌, if◌then◌else◌, List, [], ◌++◌, codes, decimal, Option, Some, None}
+use Rattle.std.specs.Prelude.{option_and_then, slice_get, unwrap_or}
 use Rattle.std.specs.Option.{option_map}
 use Rattle.hp_num.specs.Hexadecimal.{hexadecimal}
 use Rattle.ht_trace.specs.declared.frame.FrameAt.{FrameAt}

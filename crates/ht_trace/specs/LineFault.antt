@@ -2,62 +2,22 @@
 -- fault of a line is told from the lines before it: the version line, its form, a second version
 -- line, what it names, the depth of its stack, and the room of the tables. A string, an instruction
 -- or a node is named by 0 or a number up to their count, an info by a number below it.
-use Rattle.std.specs.Prelude.{
-  ◌≡◌,
-  ◌≢◌,
-  ℕ,
-  ◌+◌,
-  ◌-◌,
-  ◌^◌,
-  Bool,
-  ◌&&◌,
-  ◌||◌,
-  if◌then◌else◌,
-  List,
-  [],
-  length,
-  nat_le,
-  nat_lt,
-  Option,
-  Some,
-  None,
-  is_some,
-  unwrap_or,
-  Result,
-  Ok,
-  Err,
-}
+use Rattle.std.specs.Prelude.{◌≡◌, ◌≢◌, ℕ, ◌+◌, ◌-◌, ◌^◌, Bool, ◌&&◌, ◌||◌, if◌then◌else◌, List, [], length, nat_le}
+use Rattle.std.specs.Prelude.{nat_lt, Option, Some, None, is_some, unwrap_or, Result, Ok, Err}
 use Rattle.std.specs.List.{list_all}
 use Rattle.std.specs.Option.{option_or}
 use Rattle.ht_lines.specs.declared.item.Malformed.{Malformed}
-use Rattle.ht_lines.specs.Content.{
-  Content,
-  version_line,
-  string_line,
-  instruction_line,
-  node_line,
-  info_line,
-  allocation_line,
-  free_line,
-  suppression_line,
-}
+use Rattle.ht_lines.specs.Content.{Content, version_line, string_line, instruction_line, node_line, info_line}
+use Rattle.ht_lines.specs.Content.{allocation_line, free_line, suppression_line}
 use Rattle.ht_lines.specs.declared.item.Form.TheVariants.{Interpreted}
 use Rattle.ht_lines.specs.Reading.{reading}
 use Rattle.stack_table.specs.Node.{Node}
 use Rattle.stack_table.specs.Stack.{frame_count, most_frames}
 use Rattle.ht_trace.specs.declared.frame.Frame.{Frame}
 use Rattle.ht_trace.specs.declared.error.LineError.{LineError}
-use Rattle.ht_trace.specs.declared.error.LineError.TheVariants.{
-  NoVersion,
-  UnknownString,
-  UnknownInstruction,
-  UnknownParent,
-  UnknownTrace,
-  UnknownAllocation,
-  TooDeep,
-  TooMany,
-  NoMemory,
-}
+use Rattle.ht_trace.specs.declared.error.LineError.TheVariants.{NoVersion, UnknownString, UnknownInstruction}
+use Rattle.ht_trace.specs.declared.error.LineError.TheVariants.{UnknownParent, UnknownTrace, UnknownAllocation, TooDeep}
+use Rattle.ht_trace.specs.declared.error.LineError.TheVariants.{TooMany, NoMemory}
 use Rattle.ht_trace.specs.FramesSaid.{frames_said}
 use Rattle.ht_trace.specs.Instruction.{frame_count_of}
 use Rattle.ht_trace.specs.Pattern.{pattern_of}

@@ -1,21 +1,7 @@
 -- The patterns of suppressions. The pattern of a text is what follows `leak:` where it begins with
 -- it, else the whole text; a text that begins with `#` has none, and no pattern is empty.
-use Rattle.std.specs.Prelude.{
-  ℕ,
-  ◌==◌,
-  ◌-◌,
-  ◌||◌,
-  if◌then◌else◌,
-  List,
-  length,
-  drop,
-  codes,
-  nat_eq,
-  Option,
-  Some,
-  None,
-  slice_get,
-}
+use Rattle.std.specs.Prelude.{ℕ, ◌==◌, ◌-◌, ◌||◌, if◌then◌else◌, List, length, drop, codes, nat_eq, Option, Some, None}
+use Rattle.std.specs.Prelude.{slice_get}
 use Rattle.std.specs.List.{starts_with, filter_map}
 
 -- what follows `leak:` where the text begins with it, else the text

@@ -1,16 +1,8 @@
 -- What one line does to the tables, or why it does nothing.
 use Rattle.std.specs.Prelude.{◌≡◌, ℕ, List, [], ◌∷◌, ◌++◌, Some, None, unwrap_or}
 use Rattle.std.specs.Option.{option_or, option_to_list}
-use Rattle.ht_lines.specs.Content.{
-  Content,
-  version_line,
-  command_line,
-  string_line,
-  instruction_line,
-  node_line,
-  info_line,
-  suppression_line,
-}
+use Rattle.ht_lines.specs.Content.{Content, version_line, command_line, string_line, instruction_line, node_line}
+use Rattle.ht_lines.specs.Content.{info_line, suppression_line}
 use Rattle.ht_trace.specs.declared.error.LineError.{LineError}
 use Rattle.ht_trace.specs.declared.step.Step.{Step}
 use Rattle.ht_trace.specs.FramesSaid.{frames_said}

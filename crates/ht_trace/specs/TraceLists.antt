@@ -3,15 +3,8 @@
 -- patterns are those of the suppressions that were given, and then those of the `S` lines.
 use Rattle.std.specs.Prelude.{ℕ, List, [], Option, Some, None, slice_get, unwrap_or}
 use Rattle.std.specs.List.{filter_map}
-use Rattle.ht_lines.specs.Content.{
-  Content,
-  command_line,
-  string_line,
-  instruction_line,
-  node_line,
-  info_line,
-  suppression_line,
-}
+use Rattle.ht_lines.specs.Content.{Content, command_line, string_line, instruction_line, node_line, info_line}
+use Rattle.ht_lines.specs.Content.{suppression_line}
 use Rattle.stack_table.specs.Node.{Node}
 use Rattle.live_ledger.specs.LedgerState.{HeldInfo}
 use Rattle.ht_trace.specs.FramesSaid.{frames_said}

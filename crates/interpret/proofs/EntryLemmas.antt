@@ -1,5 +1,7 @@
 -- Entries of symbols: the last of a module up to an offset, and what it says of all others.
-use Rattle.std.proofs.Common.{◌≡◌, ◌≢◌, ◌⊎◌, inl, inr, ℕ, ◌-◌, ◌<◌, ◌≤◌, Bool, true, false, ◌&&◌, ltb, leb, eqb, List, [], ◌∷◌, ◌++◌, length, Option, Some, None, refl, sym, ap, ◌∙◌, subst, arith, true≢false, Bor}
+use Rattle.std.proofs.Common.{◌≡◌, ◌≢◌, ◌⊎◌, inl, inr, ℕ, ◌-◌, ◌<◌, ◌≤◌, Bool, true, false, ◌&&◌, ltb, leb, eqb, List}
+use Rattle.std.proofs.Common.{[], ◌∷◌, ◌++◌, length, Option, Some, None, refl, sym, ap, ◌∙◌, subst, arith, true≢false}
+use Rattle.std.proofs.Common.{Bor}
 use Rattle.std.specs.Prelude.{find, slice_get, unwrap_or, IfNone, IfSome}
 use Rattle.std.specs.Option.{option_copied, option_map}
 use Rattle.std.specs.List.{list_any}
@@ -14,8 +16,10 @@ use Rattle.interpret.specs.declared.start_index.StartIndex.{StartIndex}
 use Rattle.interpret.specs.declared.symbols.SymbolEntry.{SymbolEntry}
 use Rattle.interpret.specs.SymbolLine.{Symbol, fields}
 use Rattle.interpret.specs.SymbolList.{holds, meets}
-use Rattle.interpret.specs.SymbolEntries.{AreApart, AreIndexed, AreNamed, HasNone, IsLast, holds_offset, meets_range, place_at, symbol_kept, symbols_kept}
-use Rattle.interpret.proofs.ListLemmas.{any-map, any-none, any-not, any-some, find-map, find-none, find-only, map-same, push-cases, push-new, push-old}
+use Rattle.interpret.specs.SymbolEntries.{AreApart, AreIndexed, AreNamed, HasNone, IsLast, holds_offset, meets_range}
+use Rattle.interpret.specs.SymbolEntries.{place_at, symbol_kept, symbols_kept}
+use Rattle.interpret.proofs.ListLemmas.{any-map, any-none, any-not, any-some, find-map, find-none, find-only, map-same}
+use Rattle.interpret.proofs.ListLemmas.{push-cases, push-new, push-old}
 
 -- the entry under the last start
 pub last-is : (entries : List SymbolEntry) (index : StartIndex) (number offset start place : ℕ)

@@ -1,7 +1,9 @@
 -- The events that one line more of a raw trace brings, by what it says.
 use Rattle.std.proofs.Common.{◌≡◌, ℕ, List, [], ◌∷◌, ◌++◌, Some, refl, sym, ap, ◌∙◌, subst, append_assoc, append-nil}
 use Rattle.std.specs.List.{AllByRecursion}
-use Rattle.ht_lines.specs.Content.{Content, version_line, executable_line, command_line, system_line, clear_line, module_line, node_line, raw_allocation_line, raw_free_line, resident_line, attached_line, suppression_line, comment_line, other_line}
+use Rattle.ht_lines.specs.Content.{Content, version_line, executable_line, command_line, system_line, clear_line}
+use Rattle.ht_lines.specs.Content.{module_line, node_line, raw_allocation_line, raw_free_line, resident_line}
+use Rattle.ht_lines.specs.Content.{attached_line, suppression_line, comment_line, other_line}
 use Rattle.live_ledger.specs.declared.event.Event.{Event}
 use Rattle.live_ledger.specs.declared.event.Event.TheVariants.{Alloc, Free}
 use Rattle.interpret.specs.InterpretedSaid.{events_said, interpreted_events, interpreted_said, told_after}
@@ -10,7 +12,8 @@ use Rattle.interpret.specs.RawBlocks.{RawBlock, held}
 use Rattle.interpret.specs.RawContents.{IsRaw}
 use Rattle.interpret.specs.RawTables.{info_number, infos}
 use Rattle.interpret.specs.SymbolLine.{Symbol}
-use Rattle.interpret.proofs.LedgerLemmas.{AreTold, IsQuiet, alloc-event, event_behind, events-append, free-event, interpreted-push, node-quiet, quiet-events, told-none, told-step}
+use Rattle.interpret.proofs.LedgerLemmas.{AreTold, IsQuiet, alloc-event, event_behind, events-append, free-event}
+use Rattle.interpret.proofs.LedgerLemmas.{interpreted-push, node-quiet, quiet-events, told-none, told-step}
 use Rattle.interpret.proofs.PointerLemmas.{held-push}
 use Rattle.ht_trace.specs.Gathered.{gathered}
 

@@ -1,5 +1,6 @@
 -- No free of the interpreted lines is of an info without a live block.
-use Rattle.std.proofs.Common.{◌≡◌, ℕ, ◌+◌, ◌^◌, ◌<◌, ◌≤◌, Bool, true, false, cond, List, [], ◌∷◌, ◌++◌, map, Option, Some, None, refl, sym, ap, ◌∙◌, arith, append_assoc, append-nil, subst, true≢false}
+use Rattle.std.proofs.Common.{◌≡◌, ℕ, ◌+◌, ◌^◌, ◌<◌, ◌≤◌, Bool, true, false, cond, List, [], ◌∷◌, ◌++◌, map, Option}
+use Rattle.std.proofs.Common.{Some, None, refl, sym, ap, ◌∙◌, arith, append_assoc, append-nil, subst, true≢false}
 use Rattle.std.specs.Prelude.{◌==◌, nat_lt, slice_get, sum_by}
 use Rattle.std.specs.List.{AllByRecursion, list_any}
 use Rattle.std.specs.Option.{option_to_list}
@@ -8,7 +9,8 @@ use Rattle.std.proofs.lemmas.Bool.Decides.{nat_tests}
 use Rattle.std.proofs.lemmas.List.Sums.{sum_by-append, sum_by-cons}
 use Rattle.hp_num.specs.Hexadecimal.{hexadecimal}
 use Rattle.hp_num.specs.ParsedHex.{parsed_hex}
-use Rattle.ht_lines.specs.Content.{Content, string_line, instruction_line, info_line, allocation_line, free_line, clear_line, module_line, node_line, clock_line, raw_allocation_line, raw_free_line}
+use Rattle.ht_lines.specs.Content.{Content, string_line, instruction_line, info_line, allocation_line, free_line}
+use Rattle.ht_lines.specs.Content.{clear_line, module_line, node_line, clock_line, raw_allocation_line, raw_free_line}
 use Rattle.ht_trace.specs.Gathered.{gathered}
 use Rattle.ht_trace.specs.TraceEvents.{events}
 use Rattle.live_ledger.specs.declared.event.Event.{Event}
@@ -31,7 +33,8 @@ use Rattle.interpret.proofs.FirstLemmas.{place-within}
 use Rattle.ht_trace.proofs.Laws.{gathered-push}
 use Rattle.interpret.proofs.GrowthLemmas.{infos-push}
 use Rattle.interpret.proofs.KeepLemmas.{Holds, holds-step, none-hold}
-use Rattle.interpret.proofs.LedgerLemmas.{all-append, alloc-event, event_behind, events-append, free-event, info-at, infos-same, interpreted-push, node-quiet, now-held, quiet-events, stays-held}
+use Rattle.interpret.proofs.LedgerLemmas.{all-append, alloc-event, event_behind, events-append, free-event, info-at}
+use Rattle.interpret.proofs.LedgerLemmas.{infos-same, interpreted-push, node-quiet, now-held, quiet-events, stays-held}
 use Rattle.interpret.proofs.PointerLemmas.{number-stays}
 use Rattle.interpret.proofs.RawLedgerLemmas.{frees-once, some-is}
 use Rattle.interpret.proofs.ReadAgainLemmas.{events-again, whole-stage}

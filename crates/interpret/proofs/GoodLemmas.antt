@@ -1,5 +1,7 @@
 -- What the interpreted lines of a raw line say has no fault after what was told before.
-use Rattle.std.proofs.Common.{◌≡◌, ℕ, ◌+◌, ◌%◌, ◌-◌, ◌<◌, ◌≤◌, ◌⊎◌, inl, inr, Bool, true, false, cond, ◌&&◌, List, [], ◌∷◌, ◌++◌, length, map, Option, Some, None, refl, sym, ap, ◌∙◌, arith, append_assoc, append-nil, length-append, subst, true≢false}
+use Rattle.std.proofs.Common.{◌≡◌, ℕ, ◌+◌, ◌%◌, ◌-◌, ◌<◌, ◌≤◌, ◌⊎◌, inl, inr, Bool, true, false, cond, ◌&&◌, List, []}
+use Rattle.std.proofs.Common.{◌∷◌, ◌++◌, length, map, Option, Some, None, refl, sym, ap, ◌∙◌, arith, append_assoc}
+use Rattle.std.proofs.Common.{append-nil, length-append, subst, true≢false}
 use Rattle.std.specs.Prelude.{◌==◌, is_some, nat_le, nat_lt, unwrap_or}
 use Rattle.std.specs.List.{AllByRecursion, cons_option, flat_map, list_all}
 use Rattle.std.specs.Option.{option_map, option_to_list}
@@ -7,7 +9,9 @@ use Rattle.std.proofs.lemmas.Bool.Decides.{nat_tests}
 use Rattle.std.proofs.lemmas.List.{length-map}
 use Rattle.std.proofs.lemmas.List.Elements.{filter_map-append}
 use Rattle.hp_num.specs.ParsedDec.{parsed_dec}
-use Rattle.ht_lines.specs.Content.{Content, string_line, clear_line, module_line, instruction_line, node_line, info_line, allocation_line, free_line, raw_allocation_line, raw_free_line, suppression_line}
+use Rattle.ht_lines.specs.Content.{Content, string_line, clear_line, module_line, instruction_line, node_line}
+use Rattle.ht_lines.specs.Content.{info_line, allocation_line, free_line, raw_allocation_line, raw_free_line}
+use Rattle.ht_lines.specs.Content.{suppression_line}
 use Rattle.ht_trace.specs.declared.error.LineError.{LineError}
 use Rattle.ht_trace.specs.declared.error.LineError.TheVariants.{TooDeep, UnknownParent}
 use Rattle.ht_trace.specs.declared.frame.Frame.{Frame}
@@ -31,8 +35,10 @@ use Rattle.interpret.specs.RawContents.{IsRaw}
 use Rattle.interpret.specs.RawFault as raw_fault_of
 use Rattle.interpret.specs.RawFault.{full_fault}
 use Rattle.interpret.specs.RawTables as raw_tables
-use Rattle.interpret.specs.RawTables.{KnownIp, info_number, infos, ip_frames, ip_number, is_numbered, known, known_of, known_with, names, new_call, nodes, same_info, tables_of}
-use Rattle.interpret.specs.Resolved.{Resolved, SourceFrame, frame_numbers, frames_of, instruction_said, module_number, name_number, resolved, resolved_in, texts_in}
+use Rattle.interpret.specs.RawTables.{KnownIp, info_number, infos, ip_frames, ip_number, is_numbered, known, known_of}
+use Rattle.interpret.specs.RawTables.{known_with, names, new_call, nodes, same_info, tables_of}
+use Rattle.interpret.specs.Resolved.{Resolved, SourceFrame, frame_numbers, frames_of, instruction_said, module_number}
+use Rattle.interpret.specs.Resolved.{name_number, resolved, resolved_in, texts_in}
 use Rattle.interpret.specs.SymbolLine.{Symbol, are_frames, are_texts, is_text}
 use Rattle.interpret.specs.SymbolList.{holds, symbol_at}
 use Rattle.interpret.proofs.FirstLemmas.{place-within}
@@ -43,7 +49,9 @@ use Rattle.hp_num.proofs.Laws.{and-true}
 use Rattle.interpret.proofs.PointerLemmas.{info-held}
 use Rattle.interpret.proofs.ReadAgainLemmas.{AreFew, IsGoodNode, below, good-allocation, good-node}
 use Rattle.interpret.proofs.TakeLemmas.{new-call}
-use Rattle.interpret.proofs.ToldLemmas.{HasTold, all-more, has-told, instructions-append, known_by, names-grown, new-all, new-grown, no-instructions-said, nodes-append, node_calls, node_names, number-frames, strings-append, strings-said}
+use Rattle.interpret.proofs.ToldLemmas.{HasTold, all-more, has-told, instructions-append, known_by, names-grown}
+use Rattle.interpret.proofs.ToldLemmas.{new-all, new-grown, no-instructions-said, nodes-append, node_calls, node_names}
+use Rattle.interpret.proofs.ToldLemmas.{number-frames, strings-append, strings-said}
 use Rattle.interpret.proofs.WritableLemmas.{find-all, module-few, name-few}
 
 -- the tables when some lines were told

@@ -1,5 +1,6 @@
 -- What one line more adds to the tables of a raw trace.
-use Rattle.std.proofs.Common.{◌≡◌, ℕ, Bool, true, false, cond, ◌||◌, List, [], ◌∷◌, ◌++◌, map, Option, Some, None, refl, sym, ap, ◌∙◌, append-nil}
+use Rattle.std.proofs.Common.{◌≡◌, ℕ, Bool, true, false, cond, ◌||◌, List, [], ◌∷◌, ◌++◌, map, Option, Some, None, refl}
+use Rattle.std.proofs.Common.{sym, ap, ◌∙◌, append-nil}
 use Rattle.std.specs.Prelude.{◌==◌}
 use Rattle.std.specs.List.{filter_map, flat_map, list_any}
 use Rattle.std.specs.Option.{option_to_list}
@@ -15,7 +16,9 @@ use Rattle.interpret.specs.declared.infos.AllocationInfo.{AllocationInfo}
 use Rattle.interpret.specs.FirstAppearances.{with_all, with_new}
 use Rattle.interpret.specs.Modules.{LoadedModule, modules, modules_after}
 use Rattle.interpret.specs.RawBlocks.{held}
-use Rattle.interpret.specs.RawTables.{KnownIp, call_in, info_in, infos, instructions, known, known_of, known_with, names, names_with, new_call, node_in, node_of, nodes, same_info, same_ip, tables_after, tables_of}
+use Rattle.interpret.specs.RawTables.{KnownIp, call_in, info_in, infos, instructions, known, known_of, known_with}
+use Rattle.interpret.specs.RawTables.{names, names_with, new_call, node_in, node_of, nodes, same_info, same_ip}
+use Rattle.interpret.specs.RawTables.{tables_after, tables_of}
 use Rattle.interpret.specs.Resolved.{Resolved, names_called, resolved}
 use Rattle.interpret.specs.SymbolLine.{Symbol}
 use Rattle.interpret.proofs.FirstLemmas.{with-absent, with-held}

@@ -1,5 +1,6 @@
 -- The instruction pointers outwards from a node are those of the raw trace.
-use Rattle.std.proofs.Common.{◌≡◌, ℕ, zero, suc, ◌+◌, ◌-◌, Bool, true, false, cond, List, [], ◌∷◌, ◌++◌, length, map, reverse, Option, Some, None, refl, sym, ap, ◌∙◌, arith, append-nil, subst}
+use Rattle.std.proofs.Common.{◌≡◌, ℕ, zero, suc, ◌+◌, ◌-◌, Bool, true, false, cond, List, [], ◌∷◌, ◌++◌, length, map}
+use Rattle.std.proofs.Common.{reverse, Option, Some, None, refl, sym, ap, ◌∙◌, arith, append-nil, subst}
 use Rattle.std.specs.Prelude.{◌==◌, slice_get}
 use Rattle.std.specs.Option.{option_map, option_to_list}
 use Rattle.std.proofs.lemmas.List.{reverse-append}
@@ -11,7 +12,8 @@ use Rattle.stack_table.specs.Node.{Node}
 use Rattle.stack_table.specs.Stack.{outwards, stack, stack_nodes}
 use Rattle.interpret.specs.InterpretedSaid.{interpreted_said}
 use Rattle.interpret.specs.IpLists.{interpreted_ips, ip_of, raw_ips, raw_node_in, raw_nodes}
-use Rattle.interpret.specs.RawTables.{KnownIp, ip_number, instructions, is_numbered, known, known_of, known_with, new_call, node_in, node_of, nodes, tables_of}
+use Rattle.interpret.specs.RawTables.{KnownIp, ip_number, instructions, is_numbered, known, known_of, known_with}
+use Rattle.interpret.specs.RawTables.{new_call, node_in, node_of, nodes, tables_of}
 use Rattle.interpret.specs.Resolved.{Resolved}
 use Rattle.interpret.specs.SymbolLine.{Symbol}
 use Rattle.ht_trace.proofs.Laws.{filter_map-push}

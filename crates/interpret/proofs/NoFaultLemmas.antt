@@ -1,5 +1,7 @@
 -- The interpreted lines of a raw trace without a fault have none as an interpreted trace.
-use Rattle.std.proofs.Common.{◌≡◌, ℕ, ◌^◌, ◌<◌, ◌≤◌, true, cond, ◌||◌, List, [], ◌∷◌, ◌++◌, length, map, Option, Some, None, Result, Ok, refl, sym, ap, ◌∙◌, arith, append_assoc, append-nil, length-append, subst}
+use Rattle.std.proofs.Common.{◌≡◌, ℕ, ◌^◌, ◌<◌, ◌≤◌, true, cond, ◌||◌, List, [], ◌∷◌, ◌++◌, length, map, Option, Some}
+use Rattle.std.proofs.Common.{None, Result, Ok, refl, sym, ap, ◌∙◌, arith, append_assoc, append-nil, length-append}
+use Rattle.std.proofs.Common.{subst}
 use Rattle.std.specs.Prelude.{is_some, unwrap_or}
 use Rattle.std.specs.List.{AllByRecursion}
 use Rattle.std.specs.Option.{option_or, option_to_list}
@@ -7,7 +9,9 @@ use Rattle.hp_num.specs.Hexadecimal.{hexadecimal}
 use Rattle.hp_num.specs.ParsedHex.{parsed_hex}
 use Rattle.ht_lines.specs.declared.item.Malformed.{Malformed}
 use Rattle.ht_lines.specs.declared.item.Form.TheVariants.{Raw, Interpreted}
-use Rattle.ht_lines.specs.Content.{Content, version_line, string_line, clear_line, module_line, instruction_line, node_line, info_line, allocation_line, free_line, raw_allocation_line, raw_free_line, suppression_line}
+use Rattle.ht_lines.specs.Content.{Content, version_line, string_line, clear_line, module_line, instruction_line}
+use Rattle.ht_lines.specs.Content.{node_line, info_line, allocation_line, free_line, raw_allocation_line, raw_free_line}
+use Rattle.ht_lines.specs.Content.{suppression_line}
 use Rattle.ht_lines.specs.Reading.{reading}
 use Rattle.ht_lines.specs.Reads.{Reads}
 use Rattle.ht_lines.specs.Written.{IsWritable, written}
@@ -35,10 +39,12 @@ use Rattle.interpret.specs.RawTables.{RawTables, infos, known, names, tables_of}
 use Rattle.interpret.specs.SymbolLine.{Symbol}
 use Rattle.interpret.proofs.GrowthLemmas.{infos-push, names-push, tables-push}
 use Rattle.interpret.proofs.KeepLemmas.{all-hold}
-use Rattle.interpret.proofs.ReadAgainLemmas.{AreFew, IsPassed, Stage, few-after, first-stage, good-line, has-version, no-faults, passed-reads, read-of, stage-step, version-again}
+use Rattle.interpret.proofs.ReadAgainLemmas.{AreFew, IsPassed, Stage, few-after, first-stage, good-line, has-version}
+use Rattle.interpret.proofs.ReadAgainLemmas.{no-faults, passed-reads, read-of, stage-step, version-again}
 use Rattle.interpret.proofs.StandLemmas.{raw-writable}
 use Rattle.interpret.proofs.WritableLemmas.{allocation-writable, free-writable, node-writable}
-use Rattle.interpret.proofs.GoodLemmas.{AreGood, allocation-good, free-good, node-good, patterns-append, patterns-told, said_tables, suppression-good}
+use Rattle.interpret.proofs.GoodLemmas.{AreGood, allocation-good, free-good, node-good, patterns-append, patterns-told}
+use Rattle.interpret.proofs.GoodLemmas.{said_tables, suppression-good}
 
 first-version : (symbols : List Symbol) (version : Option ℕ) (tables : RawTables) (heaptrack file : ℕ)
     → raw_fault_of.content_fault symbols version tables (version_line heaptrack file) ≡ None → version ≡ None

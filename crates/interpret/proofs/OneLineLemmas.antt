@@ -1,12 +1,14 @@
 -- No interpreted line has a line feed, where neither raw lines nor symbols have one.
-use Rattle.std.proofs.Common.{◌≡◌, ℕ, ◌^◌, ◌<◌, List, [], ◌∷◌, ◌++◌, length, map, Option, Some, None, Result, refl, sym, subst}
+use Rattle.std.proofs.Common.{◌≡◌, ℕ, ◌^◌, ◌<◌, List, [], ◌∷◌, ◌++◌, length, map, Option, Some, None, Result, refl, sym}
+use Rattle.std.proofs.Common.{subst}
 use Rattle.std.specs.List.{AllByRecursion}
 use Rattle.std.specs.Option.{option_to_list}
 use Rattle.hp_num.specs.Hexadecimal.{hexadecimal}
 use Rattle.hp_num.specs.ParsedHex.{parsed_hex}
 use Rattle.ht_lines.specs.declared.item.Malformed.{Malformed}
 use Rattle.ht_lines.specs.declared.item.Form.TheVariants.{Raw}
-use Rattle.ht_lines.specs.Content.{Content, version_line, string_line, clear_line, module_line, node_line, free_line, raw_allocation_line, raw_free_line}
+use Rattle.ht_lines.specs.Content.{Content, version_line, string_line, clear_line, module_line, node_line, free_line}
+use Rattle.ht_lines.specs.Content.{raw_allocation_line, raw_free_line}
 use Rattle.ht_lines.specs.OneLine.{HasOneLineTexts, IsOneLine}
 use Rattle.ht_lines.specs.Written.{written}
 use Rattle.ht_lines.proofs.Laws.{Reads-one_line, written-one_line}

@@ -1,5 +1,7 @@
 -- A raw trace that is interpreted without symbols: each instruction has one frame, so that no stack is deeper than its nodes are.
-use Rattle.std.proofs.Common.{◌≡◌, ℕ, ◌+◌, ◌<◌, ◌≤◌, ◌==◌, ◌||◌, ◌⊎◌, inl, inr, append_assoc, Bool, true, false, cond, List, [], ◌∷◌, ◌++◌, length, map, reverse, max, Option, Some, None, refl, sym, ap, ap₂, ◌∙◌, arith, append-nil, length-append, subst}
+use Rattle.std.proofs.Common.{◌≡◌, ℕ, ◌+◌, ◌<◌, ◌≤◌, ◌==◌, ◌||◌, ◌⊎◌, inl, inr, append_assoc, Bool, true, false, cond}
+use Rattle.std.proofs.Common.{List, [], ◌∷◌, ◌++◌, length, map, reverse, max, Option, Some, None, refl, sym, ap, ap₂}
+use Rattle.std.proofs.Common.{◌∙◌, arith, append-nil, length-append, subst}
 use Rattle.std.specs.Prelude.{find, nat_le, sum_by, unwrap_or}
 use Rattle.std.specs.List.{AllByRecursion, filter_map, flat_map, list_any}
 use Rattle.std.specs.Option.{option_map, option_to_list}
@@ -18,7 +20,9 @@ use Rattle.interpret.specs.FirstAppearances.{with_all, with_new}
 use Rattle.interpret.specs.IpLists.{raw_node_in, raw_nodes}
 use Rattle.interpret.specs.Modules.{LoadedModule, module_of}
 use Rattle.interpret.specs.RawFault.{allocation_fault, content_fault, full_fault, node_fault}
-use Rattle.interpret.specs.RawTables.{KnownIp, RawTables, info_in, infos, instructions, ip_frames, known, known_of, known_with, names, names_with, new_call, node_in, node_of, nodes, same_info, tables_after, tables_of}
+use Rattle.interpret.specs.RawTables.{KnownIp, RawTables, info_in, infos, instructions, ip_frames, known, known_of}
+use Rattle.interpret.specs.RawTables.{known_with, names, names_with, new_call, node_in, node_of, nodes, same_info}
+use Rattle.interpret.specs.RawTables.{tables_after, tables_of}
 use Rattle.interpret.specs.Resolved.{Resolved, frame_names, frames_of, names_called, resolved, resolved_in}
 use Rattle.interpret.proofs.GrowthLemmas.{added, infos-push, known-push, names-push, nodes-push, tables-push}
 use Rattle.interpret.proofs.LedgerLemmas.{all-append}

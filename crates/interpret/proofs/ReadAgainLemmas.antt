@@ -1,5 +1,7 @@
 -- The interpreted lines of a raw trace, read as an interpreted trace, say what was meant.
-use Rattle.std.proofs.Common.{◌≡◌, ℕ, ◌+◌, ◌^◌, ◌<◌, ◌≤◌, Bool, true, false, cond, ◌||◌, List, [], ◌∷◌, ◌++◌, length, map, Option, Some, None, Result, Ok, Err, MatchResult, refl, sym, ap, ◌∙◌, arith, append_assoc, append-nil, subst, true≢false}
+use Rattle.std.proofs.Common.{◌≡◌, ℕ, ◌+◌, ◌^◌, ◌<◌, ◌≤◌, Bool, true, false, cond, ◌||◌, List, [], ◌∷◌, ◌++◌, length}
+use Rattle.std.proofs.Common.{map, Option, Some, None, Result, Ok, Err, MatchResult, refl, sym, ap, ◌∙◌, arith}
+use Rattle.std.proofs.Common.{append_assoc, append-nil, subst, true≢false}
 use Rattle.std.specs.Prelude.{◌==◌, is_some, nat_lt, unwrap_or}
 use Rattle.std.specs.List.{AllByRecursion}
 use Rattle.std.specs.Option.{option_or, option_to_list}
@@ -9,7 +11,8 @@ use Rattle.hp_num.specs.Hexadecimal.{hexadecimal}
 use Rattle.hp_num.specs.ParsedHex.{parsed_hex}
 use Rattle.ht_lines.specs.declared.item.Malformed.{Malformed}
 use Rattle.ht_lines.specs.declared.item.Form.TheVariants.{Raw, Interpreted}
-use Rattle.ht_lines.specs.Content.{Content, version_line, string_line, clear_line, module_line, instruction_line, node_line, info_line, allocation_line, free_line, raw_allocation_line, raw_free_line}
+use Rattle.ht_lines.specs.Content.{Content, version_line, string_line, clear_line, module_line, instruction_line}
+use Rattle.ht_lines.specs.Content.{node_line, info_line, allocation_line, free_line, raw_allocation_line, raw_free_line}
 use Rattle.ht_lines.specs.Kinds.{IsOfKind}
 use Rattle.ht_lines.specs.Reading.{reading}
 use Rattle.ht_lines.specs.Reads.{Reads}
@@ -17,7 +20,8 @@ use Rattle.ht_lines.specs.Refuses.{Refuses}
 use Rattle.ht_lines.specs.Written.{IsWritable, written}
 use Rattle.ht_lines.proofs.Laws.{Reads-IsWritable, reading-item, reading-sides, reading-written}
 use Rattle.ht_trace.specs.declared.error.LineError.{LineError}
-use Rattle.ht_trace.specs.declared.error.LineError.TheVariants.{NoVersion, SecondVersion, TooDeep, TooMany, UnknownParent, UnknownTrace}
+use Rattle.ht_trace.specs.declared.error.LineError.TheVariants.{NoVersion, SecondVersion, TooDeep, TooMany}
+use Rattle.ht_trace.specs.declared.error.LineError.TheVariants.{UnknownParent, UnknownTrace}
 use Rattle.ht_trace.specs.Contents as trace
 use Rattle.ht_trace.specs.FormContents.{version_in}
 use Rattle.ht_trace.specs.Gathered.{gathered}
@@ -33,9 +37,11 @@ use Rattle.interpret.specs.InterpretedTrace.{AreInterpretable, HasShortTexts, in
 use Rattle.interpret.specs.Modules.{LoadedModule, modules, modules_after}
 use Rattle.interpret.specs.RawBlocks.{held}
 use Rattle.interpret.specs.RawContents.{IsRaw, contents, file_version, version_of}
-use Rattle.interpret.specs.RawFault.{allocation_fault, content_fault, fault_in, full_fault, node_fault, raw_fault, reading_fault}
+use Rattle.interpret.specs.RawFault.{allocation_fault, content_fault, fault_in, full_fault, node_fault, raw_fault}
+use Rattle.interpret.specs.RawFault.{reading_fault}
 use Rattle.interpret.specs.RawLedger.{KeepsLedger}
-use Rattle.interpret.specs.RawTables.{RawTables, infos, instructions, ip_frames, known, known_with, names, new_call, nodes, tables_after, tables_of}
+use Rattle.interpret.specs.RawTables.{RawTables, infos, instructions, ip_frames, known, known_with, names, new_call}
+use Rattle.interpret.specs.RawTables.{nodes, tables_after, tables_of}
 use Rattle.interpret.specs.SymbolLine.{Symbol}
 use Rattle.interpret.proofs.GrowthLemmas.{infos-push, modules-push, names-push, tables-push}
 use Rattle.interpret.proofs.KeepLemmas.{keeps-ledger}

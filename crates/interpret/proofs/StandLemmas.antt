@@ -1,10 +1,12 @@
 -- That an interpreter stands for one line more.
-use Rattle.std.proofs.Common.{◌≡◌, ◌≢◌, ℕ, true, List, [], ◌∷◌, ◌++◌, Option, None, Result, Ok, refl, sym, ap, ◌∙◌, append-nil, subst}
+use Rattle.std.proofs.Common.{◌≡◌, ◌≢◌, ℕ, true, List, [], ◌∷◌, ◌++◌, Option, None, Result, Ok, refl, sym, ap, ◌∙◌}
+use Rattle.std.proofs.Common.{append-nil, subst}
 use Rattle.std.specs.Prelude.{◌||◌, is_some, unwrap_or}
 use Rattle.std.specs.Option.{option_or, option_to_list}
 use Rattle.std.specs.List.{AllByRecursion}
 use Rattle.ht_lines.specs.declared.item.Malformed.{Malformed}
-use Rattle.ht_lines.specs.Content.{Content, string_line, instruction_line, info_line, allocation_line, free_line, raw_free_line}
+use Rattle.ht_lines.specs.Content.{Content, string_line, instruction_line, info_line, allocation_line, free_line}
+use Rattle.ht_lines.specs.Content.{raw_free_line}
 use Rattle.ht_lines.specs.Written.{IsWritable}
 use Rattle.ht_lines.specs.declared.item.Form.TheVariants.{Raw}
 use Rattle.ht_lines.specs.Reading.{reading}
@@ -25,7 +27,8 @@ use Rattle.interpret.specs.RawContents.{IsRaw, contents, file_version, version_o
 use Rattle.interpret.specs.RawFault.{content_fault, fault_in, raw_fault}
 use Rattle.interpret.specs.Modules.{modules}
 use Rattle.interpret.specs.RawLedger.{KeepsLedger}
-use Rattle.interpret.specs.RawTables.{RawTables, info_in, infos, instructions, known, names, nodes, same_info, tables_after, tables_of}
+use Rattle.interpret.specs.RawTables.{RawTables, info_in, infos, instructions, known, names, nodes, same_info}
+use Rattle.interpret.specs.RawTables.{tables_after, tables_of}
 use Rattle.interpret.specs.SymbolLine.{Symbol}
 use Rattle.interpret.specs.TakesLine.{HasRead, HasRefused, Takes, freed_at}
 use Rattle.interpret.proofs.GrowthLemmas.{infos-push, tables-push}

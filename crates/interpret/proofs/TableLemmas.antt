@@ -1,5 +1,6 @@
 -- The symbols as contracts see them, beside what the table keeps.
-use Rattle.std.proofs.Common.{◌≡◌, ◌≢◌, ◌⊎◌, ℕ, ◌<◌, ◌≤◌, true, false, List, [], ◌∷◌, ◌++◌, length, Option, Some, None, refl, sym, ap, ◌∙◌, subst}
+use Rattle.std.proofs.Common.{◌≡◌, ◌≢◌, ◌⊎◌, ℕ, ◌<◌, ◌≤◌, true, false, List, [], ◌∷◌, ◌++◌, length, Option, Some, None}
+use Rattle.std.proofs.Common.{refl, sym, ap, ◌∙◌, subst}
 use Rattle.std.specs.Prelude.{find}
 use Rattle.std.specs.Option.{option_map, option_to_list}
 use Rattle.std.specs.List.{cons_option, list_any}
@@ -10,8 +11,10 @@ use Rattle.interpret.specs.declared.start_index.StartIndex.{StartIndex}
 use Rattle.interpret.specs.declared.symbols.SymbolEntry.{SymbolEntry}
 use Rattle.interpret.specs.SymbolLine.{Symbol, fields, symbol_of}
 use Rattle.interpret.specs.SymbolList.{is_skipped, meets, symbol_at, symbol_in, symbols_of}
-use Rattle.interpret.specs.SymbolEntries.{AreIndexed, AreNamed, holds_offset, meets_range, place_at, symbol_kept, symbols_kept}
-use Rattle.interpret.proofs.EntryLemmas.{holds-kept, holds-unnamed, indexed-push, kept-grown, meets-kept, named-grown, named-push}
+use Rattle.interpret.specs.SymbolEntries.{AreIndexed, AreNamed, holds_offset, meets_range, place_at, symbol_kept}
+use Rattle.interpret.specs.SymbolEntries.{symbols_kept}
+use Rattle.interpret.proofs.EntryLemmas.{holds-kept, holds-unnamed, indexed-push, kept-grown, meets-kept, named-grown}
+use Rattle.interpret.proofs.EntryLemmas.{named-push}
 
 -- names that are the old ones and maybe more
 pub record NamesGo (names more : List (List ℕ)) : Type 0 where

@@ -1,12 +1,15 @@
 -- What each kind of line does to an interpreter, over what contracts see of it.
-use Rattle.std.proofs.Common.{Bor, ◌≡◌, ◌≢◌, ◌⊎◌, inl, inr, ℕ, ◌+◌, ◌<◌, ◌≤◌, Bool, true, false, cond, eqb, ◌||◌, List, [], ◌∷◌, ◌++◌, length, map, Option, Some, None, refl, sym, ap, ◌∙◌, arith, append-nil, length-append, true≢false}
+use Rattle.std.proofs.Common.{Bor, ◌≡◌, ◌≢◌, ◌⊎◌, inl, inr, ℕ, ◌+◌, ◌<◌, ◌≤◌, Bool, true, false, cond, eqb, ◌||◌, List}
+use Rattle.std.proofs.Common.{[], ◌∷◌, ◌++◌, length, map, Option, Some, None, refl, sym, ap, ◌∙◌, arith, append-nil}
+use Rattle.std.proofs.Common.{length-append, true≢false}
 use Rattle.std.specs.Prelude.{◌==◌, find, is_some, nat_lt, unwrap_or}
 use Rattle.std.specs.List.{list_any, position_or_len}
 use Rattle.std.specs.Option.{option_or, option_to_list}
 use Rattle.std.proofs.Math.Seq.{drop-length}
 use Rattle.std.proofs.lemmas.Bool.Decides.{nat_tests}
 use Rattle.std.proofs.lemmas.List.Folds.{position_or_len_push}
-use Rattle.ht_lines.specs.Content.{Content, version_line, clear_line, module_line, string_line, node_line, allocation_line, raw_allocation_line, raw_free_line, free_line}
+use Rattle.ht_lines.specs.Content.{Content, version_line, clear_line, module_line, string_line, node_line}
+use Rattle.ht_lines.specs.Content.{allocation_line, raw_allocation_line, raw_free_line, free_line}
 use Rattle.ht_lines.specs.declared.item.Item.{Item}
 use Rattle.ht_lines.specs.declared.item.Item.TheVariants.{Version, ModuleClear, Module, RawAlloc, RawFree}
 use Rattle.ht_lines.specs.declared.item.Item.TheVariants as kind
@@ -22,7 +25,8 @@ use Rattle.interpret.specs.Interpreted.{info_said, new_in, said_for, text_of}
 use Rattle.interpret.specs.InterpreterState.{InterpreterState, IsWithin, info_at}
 use Rattle.interpret.specs.Modules.{LoadedModule, ranges_said}
 use Rattle.interpret.specs.RawFault.{content_fault, full_fault, lists_fault, node_fault}
-use Rattle.interpret.specs.RawTables.{KnownIp, RawTables, info_number, ip_frames, ip_number, is_numbered, known_of, known_with, names_with, new_call, node_of, same_info, tables_after, tables_with}
+use Rattle.interpret.specs.RawTables.{KnownIp, RawTables, info_number, ip_frames, ip_number, is_numbered, known_of}
+use Rattle.interpret.specs.RawTables.{known_with, names_with, new_call, node_of, same_info, tables_after, tables_with}
 use Rattle.interpret.specs.Resolved.{Resolved, frame_count, instruction_said, resolved, resolved_in}
 use Rattle.interpret.specs.Modules as loaded
 use Rattle.interpret.specs.SymbolLine.{Symbol}

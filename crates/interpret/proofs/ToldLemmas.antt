@@ -1,5 +1,7 @@
 -- The tables that the interpreted lines give are those of the raw ones.
-use Rattle.std.proofs.Common.{◌≡◌, ℕ, ◌+◌, ◌*◌, ◌-◌, ◌%◌, ◌⊎◌, inl, inr, Bool, true, false, cond, ◌||◌, List, [], ◌∷◌, ◌++◌, length, map, max, Option, Some, None, refl, sym, ap, ◌∙◌, arith, append_assoc, append-nil, true≢false}
+use Rattle.std.proofs.Common.{◌≡◌, ℕ, ◌+◌, ◌*◌, ◌-◌, ◌%◌, ◌⊎◌, inl, inr, Bool, true, false, cond, ◌||◌, List, [], ◌∷◌}
+use Rattle.std.proofs.Common.{◌++◌, length, map, max, Option, Some, None, refl, sym, ap, ◌∙◌, arith, append_assoc}
+use Rattle.std.proofs.Common.{append-nil, true≢false}
 use Rattle.std.specs.Prelude.{◌==◌, drop, find, slice_get, unwrap_or}
 use Rattle.std.specs.List.{AllByRecursion, flat_map, list_any, position_or_len}
 use Rattle.std.specs.Option.{option_map, option_to_list}
@@ -11,7 +13,8 @@ use Rattle.std.proofs.lemmas.List.{map-append}
 use Rattle.std.proofs.lemmas.List.Elements.{filter_map-append}
 use Rattle.std.proofs.lemmas.List.Folds.{find_at, list_any-append}
 use Rattle.std.proofs.lemmas.Option.{slice_get-map}
-use Rattle.ht_lines.specs.Content.{Content, string_line, instruction_line, node_line, info_line, allocation_line, free_line, raw_allocation_line, raw_free_line, clear_line, module_line}
+use Rattle.ht_lines.specs.Content.{Content, string_line, instruction_line, node_line, info_line, allocation_line}
+use Rattle.ht_lines.specs.Content.{free_line, raw_allocation_line, raw_free_line, clear_line, module_line}
 use Rattle.ht_trace.specs.FramesSaid.{frames_said, triples, without_file}
 use Rattle.ht_trace.specs.Gathered.{gathered}
 use Rattle.ht_trace.specs.Instruction.{Instruction, frame_count_of}
@@ -24,8 +27,11 @@ use Rattle.interpret.specs.InterpretedSaid.{interpreted_said, told_after}
 use Rattle.interpret.specs.Modules.{LoadedModule, module_of}
 use Rattle.interpret.specs.RawBlocks.{freed_by, freed_info, held}
 use Rattle.interpret.specs.RawContents.{IsRaw}
-use Rattle.interpret.specs.RawTables.{KnownIp, RawTables, ip_frames, instructions, ip_number, is_numbered, known, known_of, known_with, names, names_with, new_call, node_in, node_of, nodes, tables_of}
-use Rattle.interpret.specs.Resolved.{Resolved, SourceFrame, frame_numbers, frames_of, instruction_said, module_number, names_called, resolved, resolved_in, texts_in}
+use Rattle.interpret.specs.RawTables.{KnownIp, RawTables, ip_frames, instructions, ip_number, is_numbered, known}
+use Rattle.interpret.specs.RawTables.{known_of, known_with, names, names_with, new_call, node_in, node_of, nodes}
+use Rattle.interpret.specs.RawTables.{tables_of}
+use Rattle.interpret.specs.Resolved.{Resolved, SourceFrame, frame_numbers, frames_of, instruction_said, module_number}
+use Rattle.interpret.specs.Resolved.{names_called, resolved, resolved_in, texts_in}
 use Rattle.interpret.specs.SymbolLine.{Symbol}
 use Rattle.interpret.proofs.FirstLemmas.{with-absent, with-held}
 use Rattle.interpret.proofs.GrowthLemmas.{added, known-push, names-push, nodes-push}

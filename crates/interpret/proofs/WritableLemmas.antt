@@ -1,5 +1,7 @@
 -- What the interpreted lines of a raw line say may be written in its file version.
-use Rattle.std.proofs.Common.{◌≡◌, ℕ, ◌+◌, ◌-◌, ◌%◌, ◌^◌, ◌<◌, ◌≤◌, ◌⊎◌, inl, inr, Bool, true, false, not, cond, ◌&&◌, List, [], ◌∷◌, ◌++◌, length, map, reverse, Option, Some, None, refl, sym, ap, arith, subst, true≢false}
+use Rattle.std.proofs.Common.{◌≡◌, ℕ, ◌+◌, ◌-◌, ◌%◌, ◌^◌, ◌<◌, ◌≤◌, ◌⊎◌, inl, inr, Bool, true, false, not, cond, ◌&&◌}
+use Rattle.std.proofs.Common.{List, [], ◌∷◌, ◌++◌, length, map, reverse, Option, Some, None, refl, sym, ap, arith}
+use Rattle.std.proofs.Common.{subst, true≢false}
 use Rattle.std.specs.Prelude.{◌==◌, find, nat_le, nat_lt, position, unwrap_or}
 use Rattle.std.specs.List.{AllByRecursion, flat_map, position_or_len}
 use Rattle.std.specs.Option.{option_map, option_to_list}
@@ -20,8 +22,10 @@ use Rattle.interpret.specs.Interpreted.{info_said, new_in}
 use Rattle.interpret.specs.InterpretedTrace.{HasShortTexts}
 use Rattle.interpret.specs.Modules.{LoadedModule, holds_address, module_of}
 use Rattle.interpret.specs.RawBlocks.{RawBlock, freed_info}
-use Rattle.interpret.specs.RawTables.{KnownIp, RawTables, info_number, ip_number, is_numbered, names_with, new_call, same_info}
-use Rattle.interpret.specs.Resolved.{Resolved, SourceFrame, frame_names, frame_numbers, frames_of, instruction_said, module_number, name_number, names_called, resolved, resolved_in, texts_in}
+use Rattle.interpret.specs.RawTables.{KnownIp, RawTables, info_number, ip_number, is_numbered, names_with, new_call}
+use Rattle.interpret.specs.RawTables.{same_info}
+use Rattle.interpret.specs.Resolved.{Resolved, SourceFrame, frame_names, frame_numbers, frames_of, instruction_said}
+use Rattle.interpret.specs.Resolved.{module_number, name_number, names_called, resolved, resolved_in, texts_in}
 use Rattle.interpret.specs.SymbolLine.{Symbol}
 use Rattle.interpret.specs.SymbolList.{holds, symbol_at}
 use Rattle.interpret.proofs.FirstLemmas.{place-within, position-some}

@@ -1,6 +1,8 @@
 -- Lines of a raw trace that bring no event. A line of a raw trace brings no event where it neither
 -- allocates nor frees, nor tells a time.
-use Rattle.ht_lines.specs.Content.{Content, version_line, executable_line, command_line, system_line, clear_line, module_line, node_line, resident_line, attached_line, suppression_line, comment_line, other_line}
+use Rattle.ht_lines.specs.Content.{Content, version_line, executable_line, command_line, system_line, clear_line}
+use Rattle.ht_lines.specs.Content.{module_line, node_line, resident_line, attached_line, suppression_line, comment_line}
+use Rattle.ht_lines.specs.Content.{other_line}
 
 -- the line neither allocates nor frees, nor does it tell a time
 abbrev pub IsEventless : Content → Type 0

@@ -7,7 +7,8 @@ use Rattle.ht_lines.specs.Content.{Content}
 use Rattle.interpret.specs.declared.resolved.ResolvedIp.{ResolvedIp}
 use Rattle.interpret.specs.declared.symbol_frame.SourcePlace.{SourcePlace}
 use Rattle.interpret.specs.declared.symbol_frame.SymbolFrame.{SymbolFrame}
-use Rattle.interpret.specs.Resolved.{Resolved, SourceFrame, frame_names, frame_numbers, frames_of, instruction_said, names_called}
+use Rattle.interpret.specs.Resolved.{Resolved, SourceFrame, frame_names, frame_numbers, frames_of, instruction_said}
+use Rattle.interpret.specs.Resolved.{names_called}
 use Rattle.interpret.specs.SymbolEntries.{following}
 
 abbrev pub place_kept : SourcePlace → List ℕ × ℕ

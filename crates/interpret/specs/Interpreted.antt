@@ -7,7 +7,8 @@ use Rattle.std.specs.List.{flat_map}
 use Rattle.std.specs.Option.{option_to_list}
 use Rattle.ht_lines.specs.declared.item.Malformed.{Malformed}
 use Rattle.ht_lines.specs.declared.item.Form.TheVariants.{Raw}
-use Rattle.ht_lines.specs.Content.{Content, version_line, string_line, clear_line, module_line, node_line, info_line, allocation_line, free_line, raw_allocation_line, raw_free_line}
+use Rattle.ht_lines.specs.Content.{Content, version_line, string_line, clear_line, module_line, node_line, info_line}
+use Rattle.ht_lines.specs.Content.{allocation_line, free_line, raw_allocation_line, raw_free_line}
 use Rattle.ht_lines.specs.Reading.{reading}
 use Rattle.ht_lines.specs.Written.{written}
 use Rattle.interpret.specs.declared.infos.AllocationInfo.{AllocationInfo}

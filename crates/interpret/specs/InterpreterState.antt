@@ -1,6 +1,7 @@
 -- An interpreter stands for lines with some symbols where its tables and pointers are theirs and
 -- none of them has a fault.
-use Rattle.std.specs.Prelude.{◌≡◌, ℕ, ◌==◌, ◌<◌, ◌≤◌, if◌then◌else◌, true, false, List, [], length, Option, Some, None, IfSome, is_some, unwrap_or}
+use Rattle.std.specs.Prelude.{◌≡◌, ℕ, ◌==◌, ◌<◌, ◌≤◌, if◌then◌else◌, true, false, List, [], length, Option, Some, None}
+use Rattle.std.specs.Prelude.{IfSome, is_some, unwrap_or}
 use Rattle.std.specs.List.{AllByRecursion}
 use Rattle.std.specs.Map.{lookup}
 use Rattle.ht_lines.specs.Content.{Content, raw_allocation_line, raw_free_line}

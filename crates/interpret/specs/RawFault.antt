@@ -1,14 +1,16 @@
 -- The fault of a line of a raw trace after earlier lines: the first that holds in the order of the
 -- tests here. The fault of a raw line after earlier lines: the want of a version line, the
 -- grammar's, a second version line, an unknown parent or node, a stack too deep, a table too full.
-use Rattle.std.specs.Prelude.{ℕ, ◌+◌, ◌||◌, if◌then◌else◌, List, length, nat_lt, Option, Some, None, is_some, unwrap_or, Result, Ok, Err}
+use Rattle.std.specs.Prelude.{ℕ, ◌+◌, ◌||◌, if◌then◌else◌, List, length, nat_lt, Option, Some, None, is_some, unwrap_or}
+use Rattle.std.specs.Prelude.{Result, Ok, Err}
 use Rattle.std.specs.Option.{option_or}
 use Rattle.ht_lines.specs.declared.item.Malformed.{Malformed}
 use Rattle.ht_lines.specs.Content.{Content, version_line, node_line, raw_allocation_line}
 use Rattle.ht_lines.specs.declared.item.Form.TheVariants.{Raw}
 use Rattle.ht_lines.specs.Reading.{reading}
 use Rattle.ht_trace.specs.declared.error.LineError.{LineError}
-use Rattle.ht_trace.specs.declared.error.LineError.TheVariants.{NoVersion, UnknownParent, UnknownTrace, TooDeep, TooMany}
+use Rattle.ht_trace.specs.declared.error.LineError.TheVariants.{NoVersion, UnknownParent, UnknownTrace, TooDeep}
+use Rattle.ht_trace.specs.declared.error.LineError.TheVariants.{TooMany}
 use Rattle.ht_trace.specs.ErrorOf.{of_malformed}
 use Rattle.ht_trace.specs.LineFault.{most_entries, most_nodes}
 use Rattle.ht_trace.specs.VersionLines.{may_stand_first, missing_fault, second_fault}

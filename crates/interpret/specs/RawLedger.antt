@@ -2,7 +2,8 @@
 -- live where no line frees it. At every node the interpreted lines leave the bytes and the blocks
 -- live that the raw ones do. At every node the interpreted trace has the instruction pointers of
 -- the raw one.
-use Rattle.std.specs.Prelude.{◌≡◌, ℕ, ◌==◌, Bool, not, List, [], if◌then◌else◌, filter, length, count_by, sum_by, map, Option, Some, None}
+use Rattle.std.specs.Prelude.{◌≡◌, ℕ, ◌==◌, Bool, not, List, [], if◌then◌else◌, filter, length, count_by, sum_by, map}
+use Rattle.std.specs.Prelude.{Option, Some, None}
 use Rattle.std.specs.List.{list_any}
 use Rattle.ht_lines.specs.Content.{Content, raw_allocation_line}
 use Rattle.ht_trace.specs.Gathered.{gathered}

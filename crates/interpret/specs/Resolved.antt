@@ -1,7 +1,8 @@
 -- What stands at an address is its module's name and the frames of the symbol that holds the
 -- address less the module's start. An instruction calls for the name of its module, then for the
 -- function and the file of each frame; its line has their numbers, and 0 for none.
-use Rattle.std.specs.Prelude.{ℕ, ◌-◌, List, [], ◌∷◌, ◌++◌, if◌then◌else◌, length, max, nat_le, Option, Some, None, unwrap_or}
+use Rattle.std.specs.Prelude.{ℕ, ◌-◌, List, [], ◌∷◌, ◌++◌, if◌then◌else◌, length, max, nat_le, Option, Some, None}
+use Rattle.std.specs.Prelude.{unwrap_or}
 use Rattle.std.specs.List.{flat_map}
 use Rattle.std.specs.Option.{option_to_list}
 use Rattle.hp_num.specs.ParsedDec.{parsed_dec}

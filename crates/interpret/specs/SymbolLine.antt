@@ -2,7 +2,8 @@
 -- where it has a module, a start and a size in hexadecimal digits, and then a function alone, or a
 -- function, a file and a decimal number for each frame; no text is empty, the size isn't 0, and the
 -- range ends at 2^64 - 1 or before.
-use Rattle.std.specs.Prelude.{ℕ, ◌+◌, ◌^◌, Bool, true, false, ◌==◌, ◌&&◌, if◌then◌else◌, List, [], ◌∷◌, length, nat_lt, Option, None, Some, is_some}
+use Rattle.std.specs.Prelude.{ℕ, ◌+◌, ◌^◌, Bool, true, false, ◌==◌, ◌&&◌, if◌then◌else◌, List, [], ◌∷◌, length, nat_lt}
+use Rattle.std.specs.Prelude.{Option, None, Some, is_some}
 use Rattle.std.specs.List.{slice_split}
 use Rattle.hp_num.specs.ParsedDec.{parsed_dec}
 use Rattle.hp_num.specs.ParsedHex.{parsed_hex}

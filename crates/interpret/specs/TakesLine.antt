@@ -1,5 +1,6 @@
 -- What an interpreter does with one line, for private clauses.
-use Rattle.std.specs.Prelude.{◌≡◌, ◌≢◌, ◌||◌, ℕ, Bool, true, false, List, ◌++◌, Option, None, is_some, unwrap_or, Result, Ok, OnOk, IfErr}
+use Rattle.std.specs.Prelude.{◌≡◌, ◌≢◌, ◌||◌, ℕ, Bool, true, false, List, ◌++◌, Option, None, is_some, unwrap_or}
+use Rattle.std.specs.Prelude.{Result, Ok, OnOk, IfErr}
 use Rattle.std.specs.Global.{Vec}
 use Rattle.std.specs.Option.{option_or}
 use Rattle.ht_lines.specs.Content.{Content, raw_free_line}

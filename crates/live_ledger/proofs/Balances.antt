@@ -1,27 +1,6 @@
 -- How an event keeps the balance between sums and entries.
-use Rattle.std.proofs.Common.{
-  ◌≡◌,
-  ℕ,
-  ◌+◌,
-  ◌-◌,
-  ◌*◌,
-  ◌<◌,
-  ◌≤◌,
-  List,
-  [],
-  ◌∷◌,
-  ◌++◌,
-  set,
-  Bool,
-  true,
-  false,
-  cond,
-  refl,
-  ap,
-  ◌∙◌,
-  zero-mul,
-  arith,
-}
+use Rattle.std.proofs.Common.{◌≡◌, ℕ, ◌+◌, ◌-◌, ◌*◌, ◌<◌, ◌≤◌, List, [], ◌∷◌, ◌++◌, set, Bool, true, false, cond, refl}
+use Rattle.std.proofs.Common.{ap, ◌∙◌, zero-mul, arith}
 use Rattle.std.proofs.lemmas.List.Sums.{sum_by_push}
 use Rattle.live_ledger.specs.declared.totals_ledger.InfoEntry.{InfoEntry}
 use Rattle.live_ledger.specs.declared.sums.Sums.{Sums}

@@ -1,31 +1,6 @@
 -- How an event keeps the ledger's fields consistent.
-use Rattle.std.proofs.Common.{
-  ◌≡◌,
-  ◌≢◌,
-  ℕ,
-  ◌+◌,
-  ◌-◌,
-  ◌^◌,
-  ◌<◌,
-  ◌≤◌,
-  List,
-  [],
-  ◌∷◌,
-  ◌++◌,
-  length,
-  set,
-  map,
-  true,
-  false,
-  refl,
-  inl,
-  inr,
-  sym,
-  ap,
-  subst,
-  ◌∙◌,
-  arith,
-}
+use Rattle.std.proofs.Common.{◌≡◌, ◌≢◌, ℕ, ◌+◌, ◌-◌, ◌^◌, ◌<◌, ◌≤◌, List, [], ◌∷◌, ◌++◌, length, set, map, true, false}
+use Rattle.std.proofs.Common.{refl, inl, inr, sym, ap, subst, ◌∙◌, arith}
 use Rattle.std.specs.Prelude.{sum_by, slice_index}
 use Rattle.std.specs.List.{All}
 use Rattle.std.proofs.lemmas.Bool.Decides.{eqb_tells}
@@ -36,33 +11,12 @@ use Rattle.std.proofs.Math.Seq.{map-set_same}
 use Rattle.std.proofs.lemmas.List.{map-append}
 use Rattle.live_ledger.specs.declared.totals_ledger.InfoEntry.{InfoEntry}
 use Rattle.live_ledger.specs.declared.sums.Sums.{Sums}
-use Rattle.live_ledger.specs.Consistent.{
-  AreConsistent,
-  AreKept,
-  AreSumsOf,
-  Balances,
-  any_entry,
-  blocks_of,
-  blocks_where,
-  calls_where,
-  is_of,
-  stack_of,
-  sums_at,
-}
+use Rattle.live_ledger.specs.Consistent.{AreConsistent, AreKept, AreSumsOf, Balances, any_entry, blocks_of}
+use Rattle.live_ledger.specs.Consistent.{blocks_where, calls_where, is_of, stack_of, sums_at}
 use Rattle.live_ledger.specs.Sums.{no_sums, with_alloc, with_free}
 use Rattle.live_ledger.specs.TotalsState.{one_fewer, one_more}
-use Rattle.live_ledger.proofs.Entries.{
-  IsEntry,
-  IsOwn,
-  entry-in_sum,
-  number-at,
-  own-at,
-  own-in_total,
-  own-others,
-  own-push,
-  own-written,
-  total-after,
-}
+use Rattle.live_ledger.proofs.Entries.{IsEntry, IsOwn, entry-in_sum, number-at, own-at, own-in_total, own-others}
+use Rattle.live_ledger.proofs.Entries.{own-push, own-written, total-after}
 use Rattle.live_ledger.proofs.Balances.{balance-alloc, balance-free, balance-live, balance-others, balance-push}
 
 -- the sums of all stacks after those of one are written

@@ -1,42 +1,10 @@
 -- Lemmas on the ledger's fields: its entries and the sums of its stacks, read and written at their places.
-use Rattle.std.proofs.Common.{
-  ◌≡◌,
-  ◌≢◌,
-  ℕ,
-  ◌+◌,
-  ◌<◌,
-  ◌≤◌,
-  zero,
-  suc,
-  List,
-  [],
-  ◌∷◌,
-  ◌++◌,
-  length,
-  get_or,
-  set,
-  map,
-  Bool,
-  true,
-  false,
-  cond,
-  refl,
-  sym,
-  ap,
-  ◌∙◌,
-  arith,
-}
+use Rattle.std.proofs.Common.{◌≡◌, ◌≢◌, ℕ, ◌+◌, ◌<◌, ◌≤◌, zero, suc, List, [], ◌∷◌, ◌++◌, length, get_or, set, map}
+use Rattle.std.proofs.Common.{Bool, true, false, cond, refl, sym, ap, ◌∙◌, arith}
 use Rattle.std.specs.Int.{from_bool}
 use Rattle.std.specs.Prelude.{slice_get, slice_index, sum_by, Some}
-use Rattle.std.proofs.lemmas.List.{
-  length-map,
-  length-set,
-  get_or-map,
-  get_or_default,
-  map-set,
-  get_or-set_same,
-  get_or-set_other,
-}
+use Rattle.std.proofs.lemmas.List.{length-map, length-set, get_or-map, get_or_default, map-set, get_or-set_same}
+use Rattle.std.proofs.lemmas.List.{get_or-set_other}
 use Rattle.std.proofs.lemmas.List.Sums.{sum_by-set, get_or-le-sum_by}
 use Rattle.std.proofs.lemmas.Option.{slice_get_within, get_or_from_slice_get}
 use Rattle.live_ledger.specs.declared.totals_ledger.InfoEntry.{InfoEntry}

@@ -1,36 +1,7 @@
 -- Sums over events told by their infos.
-use Rattle.std.proofs.Common.{
-  ◌≡◌,
-  ℕ,
-  ◌+◌,
-  ◌*◌,
-  ◌^◌,
-  ◌<◌,
-  ◌≤◌,
-  zero,
-  suc,
-  List,
-  [],
-  ◌∷◌,
-  length,
-  get_or,
-  take,
-  Bool,
-  cond,
-  Option,
-  inl,
-  inr,
-  refl,
-  sym,
-  ap,
-  subst,
-  ◌∙◌,
-  arith,
-  add-one,
-  ◌≢◌,
-  mul-zero,
-  mul-le-mul_left,
-}
+use Rattle.std.proofs.Common.{◌≡◌, ℕ, ◌+◌, ◌*◌, ◌^◌, ◌<◌, ◌≤◌, zero, suc, List, [], ◌∷◌, length, get_or, take, Bool}
+use Rattle.std.proofs.Common.{cond, Option, inl, inr, refl, sym, ap, subst, ◌∙◌, arith, add-one, ◌≢◌, mul-zero}
+use Rattle.std.proofs.Common.{mul-le-mul_left}
 use Rattle.std.specs.Prelude.{◌==◌, nat_lt, None, Some, slice_get, slice_index, sum_by}
 use Rattle.std.specs.List.{zip}
 use Rattle.std.proofs.Math.Dec.{eqb-suc-suc, eqb-suc-zero, eqb-zero-suc}
@@ -45,16 +16,8 @@ use Rattle.live_ledger.specs.declared.event.EventFault.TheVariants.{CostTooLarge
 use Rattle.live_ledger.specs.ByInfo.{AreBalanced, alloc_weight, free_weight, weighed}
 use Rattle.live_ledger.specs.Faults.{fault_of}
 use Rattle.live_ledger.specs.InfoBlocks.{allocs_of, frees_of, is_alloc_of, is_free_of}
-use Rattle.live_ledger.specs.InStack.{
-  alloc_size_in,
-  allocated_in,
-  calls_in,
-  free_size_in,
-  freed_in,
-  frees_in,
-  is_alloc_in,
-  is_free_in,
-}
+use Rattle.live_ledger.specs.InStack.{alloc_size_in, allocated_in, calls_in, free_size_in, freed_in, frees_in}
+use Rattle.live_ledger.specs.InStack.{is_alloc_in, is_free_in}
 use Rattle.live_ledger.specs.LedgerState.{HeldInfo, IsAmong, LedgerState}
 use Rattle.live_ledger.specs.LiveBytes.{alloc_size, allocated_bytes}
 use Rattle.live_ledger.specs.Possible.{AreAmong, ArePossible, HaveNoFault}

@@ -1,26 +1,6 @@
 -- Lemmas on lists of events with one more event at the end.
-use Rattle.std.proofs.Common.{
-  Bool,
-  true,
-  false,
-  ◌≡◌,
-  ℕ,
-  ◌+◌,
-  ◌-◌,
-  suc,
-  List,
-  [],
-  ◌∷◌,
-  ◌++◌,
-  length,
-  cond,
-  Option,
-  refl,
-  ap,
-  ◌∙◌,
-  arith,
-  append-nil,
-}
+use Rattle.std.proofs.Common.{Bool, true, false, ◌≡◌, ℕ, ◌+◌, ◌-◌, suc, List, [], ◌∷◌, ◌++◌, length, cond, Option, refl}
+use Rattle.std.proofs.Common.{ap, ◌∙◌, arith, append-nil}
 use Rattle.std.specs.Option.{option_eq}
 use Rattle.std.specs.Prelude.{nat_eq, ◌==◌, ◌&&◌, slice_get, Some, None, count_by, option_and_then}
 use Rattle.std.proofs.lemmas.List.Sums.{sum_by-cons}

@@ -1,29 +1,6 @@
 -- What a ledger stands for after one more event, stack or info: its totals, and with them each stack.
-use Rattle.std.proofs.Common.{
-  ◌≡◌,
-  ◌≢◌,
-  ℕ,
-  ◌+◌,
-  ◌<◌,
-  List,
-  [],
-  ◌∷◌,
-  ◌++◌,
-  Bool,
-  cond,
-  Option,
-  true,
-  false,
-  inl,
-  inr,
-  refl,
-  add-zero,
-  sym,
-  ap,
-  subst,
-  ◌∙◌,
-  arith,
-}
+use Rattle.std.proofs.Common.{◌≡◌, ◌≢◌, ℕ, ◌+◌, ◌<◌, List, [], ◌∷◌, ◌++◌, Bool, cond, Option, true, false, inl, inr}
+use Rattle.std.proofs.Common.{refl, add-zero, sym, ap, subst, ◌∙◌, arith}
 use Rattle.std.specs.Option.{option_eq}
 use Rattle.std.specs.Prelude.{nat_eq, ◌==◌, Some, None, slice_index}
 use Rattle.std.proofs.lemmas.List.{map-append}
@@ -39,17 +16,8 @@ use Rattle.live_ledger.specs.Events.{is_alloc, is_free, is_counted, event_count}
 use Rattle.live_ledger.specs.LiveBytes.{alloc_size, free_size, allocated_bytes, freed_bytes}
 use Rattle.live_ledger.specs.LiveBlocks.{calls, frees}
 use Rattle.live_ledger.specs.InfoBlocks.{is_alloc_of, is_free_of, allocs_of, frees_of}
-use Rattle.live_ledger.specs.InStack.{
-  alloc_size_in,
-  allocated_in,
-  calls_in,
-  free_size_in,
-  freed_in,
-  frees_in,
-  is_alloc_in,
-  is_free_in,
-  temporary_in,
-}
+use Rattle.live_ledger.specs.InStack.{alloc_size_in, allocated_in, calls_in, free_size_in, freed_in, frees_in}
+use Rattle.live_ledger.specs.InStack.{is_alloc_in, is_free_in, temporary_in}
 use Rattle.live_ledger.specs.Temporary.{last_allocated, temporary_count}
 use Rattle.live_ledger.specs.Faults.{fault_of, fault_at}
 use Rattle.live_ledger.specs.LedgerState.{HeldInfo, IsHeld, LedgerState, figures_at, without_figures}
@@ -61,18 +29,8 @@ use Rattle.live_ledger.specs.Consistent.{blocks_of, calls_of, info_of}
 use Rattle.live_ledger.specs.TotalsState.{TotalsState, ledger_of, no_events, with_info, with_stack}
 use Rattle.live_ledger.proofs.Entries.{number-push}
 use Rattle.live_ledger.proofs.PossibleLemmas.{among-infos, among-more, faultless-more}
-use Rattle.live_ledger.proofs.Lists.{
-  temporary_in-tick,
-  temporary_in-alloc,
-  temporary_in-free,
-  temporary_in-free_other,
-  temporary-tick,
-  temporary-alloc,
-  temporary-free,
-  last-tick,
-  last-alloc,
-  last-free,
-}
+use Rattle.live_ledger.proofs.Lists.{temporary_in-tick, temporary_in-alloc, temporary_in-free, temporary_in-free_other}
+use Rattle.live_ledger.proofs.Lists.{temporary-tick, temporary-alloc, temporary-free, last-tick, last-alloc, last-free}
 
 -- whether a number is 0 is whether the two that it stands between are equal
 equal-from_zero : (between less more : ℕ) → between + less ≡ more → (between == 0) ≡ (more == less)

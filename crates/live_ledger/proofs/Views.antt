@@ -1,35 +1,6 @@
 -- What contracts see of the ledger's fields.
-use Rattle.std.proofs.Common.{
-  ◌≡◌,
-  ◌≢◌,
-  ℕ,
-  ◌+◌,
-  ◌-◌,
-  ◌^◌,
-  ◌<◌,
-  ◌≤◌,
-  List,
-  [],
-  ◌∷◌,
-  ◌++◌,
-  length,
-  get_or,
-  set,
-  map,
-  Bool,
-  true,
-  false,
-  Option,
-  cond,
-  refl,
-  inl,
-  inr,
-  sym,
-  ap,
-  subst,
-  ◌∙◌,
-  arith,
-}
+use Rattle.std.proofs.Common.{◌≡◌, ◌≢◌, ℕ, ◌+◌, ◌-◌, ◌^◌, ◌<◌, ◌≤◌, List, [], ◌∷◌, ◌++◌, length, get_or, set, map, Bool}
+use Rattle.std.proofs.Common.{true, false, Option, cond, refl, inl, inr, sym, ap, subst, ◌∙◌, arith}
 use Rattle.std.specs.Prelude.{nat_eq, nat_lt, ◌==◌, if◌then◌else◌, slice_get, slice_index, sum_by, Some, None}
 use Rattle.std.specs.List.{All}
 use Rattle.std.specs.Option.{option_eq}
@@ -48,46 +19,17 @@ use Rattle.live_ledger.specs.declared.totals_ledger.InfoEntry.{InfoEntry}
 use Rattle.live_ledger.specs.declared.sums.Sums.{Sums}
 use Rattle.live_ledger.specs.LedgerState.{HeldInfo, figures_at, no_figures}
 use Rattle.live_ledger.specs.Changes.{AddsBlock, Allocates, Frees, GainsBlock, LosesBlock, TakesBlock, ended_by_free}
-use Rattle.live_ledger.specs.Consistent.{
-  AreConsistent,
-  AreKept,
-  AreSumsOf,
-  any_entry,
-  blocks_of,
-  calls_of,
-  info_of,
-  is_of,
-  stack_of,
-  sums_at,
-}
+use Rattle.live_ledger.specs.Consistent.{AreConsistent, AreKept, AreSumsOf, any_entry, blocks_of, calls_of, info_of}
+use Rattle.live_ledger.specs.Consistent.{is_of, stack_of, sums_at}
 use Rattle.live_ledger.specs.Faults.{fault_at}
 use Rattle.live_ledger.specs.Sound.{AreSums, AreWithin, IsSound}
 use Rattle.live_ledger.specs.Sums.{IsPaired, figures_of, no_sums, totals_of, with_alloc, with_free}
 use Rattle.live_ledger.proofs.Balances.{balance-paired}
 use Rattle.live_ledger.proofs.Consistency.{free-fits_own, free-fits_whole}
-use Rattle.live_ledger.specs.TotalsState.{
-  IsKept,
-  TotalsState,
-  entry_at,
-  ledger_of,
-  one_fewer,
-  one_more,
-  state_of,
-  with_block,
-  without_block,
-}
-use Rattle.live_ledger.proofs.Entries.{
-  IsEntry,
-  IsOwn,
-  entry-held,
-  number-at,
-  number-at_others,
-  number-at_set,
-  own-at,
-  own-others,
-  own-push,
-  own-written,
-}
+use Rattle.live_ledger.specs.TotalsState.{IsKept, TotalsState, entry_at, ledger_of, one_fewer, one_more, state_of}
+use Rattle.live_ledger.specs.TotalsState.{with_block, without_block}
+use Rattle.live_ledger.proofs.Entries.{IsEntry, IsOwn, entry-held, number-at, number-at_others, number-at_set, own-at}
+use Rattle.live_ledger.proofs.Entries.{own-others, own-push, own-written}
 
 -- the state of a ledger of totals by its parts
 abbrev pub whole_of : ℕ → List InfoEntry → Sums → Option ℕ → TotalsState

@@ -1,21 +1,7 @@
 -- A temporary allocation is a place where an allocation stands and the very next event is a free of
 -- the same info. Clock values stand between no two events.
-use Rattle.std.specs.Prelude.{
-  ℕ,
-  Bool,
-  false,
-  ◌==◌,
-  ◌-◌,
-  List,
-  length,
-  drop,
-  count_by,
-  slice_get,
-  Option,
-  None,
-  Some,
-  option_and_then,
-}
+use Rattle.std.specs.Prelude.{ℕ, Bool, false, ◌==◌, ◌-◌, List, length, drop, count_by, slice_get, Option, None, Some}
+use Rattle.std.specs.Prelude.{option_and_then}
 use Rattle.std.specs.List.{zip}
 use Rattle.live_ledger.specs.declared.event.Event.{Event}
 use Rattle.live_ledger.specs.declared.event.Event.TheVariants.{Alloc, Free, Tick}

@@ -1,22 +1,7 @@
 -- A ledger of totals has the stacks, the infos with their blocks, sums over all events, and the
 -- last event's info; an event adds to these. It is a ledger without the figures of stacks.
-use Rattle.std.specs.Prelude.{
-  ◌≡◌,
-  ℕ,
-  ◌+◌,
-  ◌-◌,
-  List,
-  [],
-  ◌∷◌,
-  ◌++◌,
-  map,
-  slice_get,
-  slice_index_or,
-  slice_set,
-  Option,
-  None,
-  Some,
-}
+use Rattle.std.specs.Prelude.{◌≡◌, ℕ, ◌+◌, ◌-◌, List, [], ◌∷◌, ◌++◌, map, slice_get, slice_index_or, slice_set, Option}
+use Rattle.std.specs.Prelude.{None, Some}
 use Rattle.live_ledger.specs.declared.event.Event.{Event}
 use Rattle.live_ledger.specs.declared.event.Event.TheVariants.{Alloc, Free, Tick}
 use Rattle.live_ledger.specs.declared.sums.Sums.{Sums}

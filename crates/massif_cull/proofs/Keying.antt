@@ -1,5 +1,6 @@
 -- The keys of places while snapshots are culled: how they are given, which one comes first, and what is left after a removal.
-use Rattle.std.proofs.Common.{◌≡◌, ◌≢◌, ◌⊎◌, ℕ, ◌+◌, ◌-◌, ◌^◌, ◌<◌, ◌≤◌, zero, suc, Bool, true, false, List, [], ◌∷◌, ◌++◌, length, map, take, set, get_or, inl, inr, refl, sym, ap, subst, ◌∙◌, arith}
+use Rattle.std.proofs.Common.{◌≡◌, ◌≢◌, ◌⊎◌, ℕ, ◌+◌, ◌-◌, ◌^◌, ◌<◌, ◌≤◌, zero, suc, Bool, true, false, List, [], ◌∷◌}
+use Rattle.std.proofs.Common.{◌++◌, length, map, take, set, get_or, inl, inr, refl, sym, ap, subst, ◌∙◌, arith}
 use Rattle.std.specs.Prelude.{remove, slice_get, slice_index, Some}
 use Rattle.std.specs.List.{slice_index_or}
 use Rattle.std.proofs.lemmas.Bool.{cases_Bool, cases_eq, cases_lt, le-ltb, lt-ltb}
@@ -17,7 +18,8 @@ use Rattle.massif_cull.specs.Linked.{AreBelow, AreDifferent, IsOutside}
 use Rattle.massif_cull.specs.SnapsState.{SnapsState, ArePlaced}
 use Rattle.massif_cull.proofs.Equals.{peak-below, time-above, time-below}
 use Rattle.massif_cull.proofs.Linking.{apart-at, each-at, each-left, each-remove, each-right}
-use Rattle.massif_cull.proofs.Places.{IsFirstLeast, may_go-between, may_go-inside, may_go-peak, no_entry, removed-is, second-may_go, time-at}
+use Rattle.massif_cull.proofs.Places.{IsFirstLeast, may_go-between, may_go-inside, may_go-peak, no_entry, removed-is}
+use Rattle.massif_cull.proofs.Places.{second-may_go, time-at}
 use Rattle.massif_cull.proofs.Removals.{get-remove_above, get-remove_below, map-remove}
 
 -- ---- places

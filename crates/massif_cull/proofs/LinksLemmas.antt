@@ -1,5 +1,6 @@
 -- What the fields of links say of their places, before and after a call.
-use Rattle.std.proofs.Common.{◌≡◌, ◌≢◌, ℕ, ◌+◌, ◌-◌, ◌<◌, ◌≤◌, Bool, cond, eqb, List, [], ◌∷◌, ◌++◌, length, set, get_or, inl, inr, sym, ap, subst, ◌∙◌, add-one, arith}
+use Rattle.std.proofs.Common.{◌≡◌, ◌≢◌, ℕ, ◌+◌, ◌-◌, ◌<◌, ◌≤◌, Bool, cond, eqb, List, [], ◌∷◌, ◌++◌, length, set}
+use Rattle.std.proofs.Common.{get_or, inl, inr, sym, ap, subst, ◌∙◌, add-one, arith}
 use Rattle.std.specs.Prelude.{slice_get, slice_index, remove, Contains, Option, Some, None, IfSome, vec_capacity}
 use Rattle.std.specs.Option.{option_to_list}
 use Rattle.std.proofs.lemmas.Bool.{cases_Bool}
@@ -9,7 +10,10 @@ use Rattle.std.proofs.lemmas.List.Edits.{length-remove}
 use Rattle.std.proofs.lemmas.Option.{slice_get_within}
 use Rattle.massif_cull.specs.declared.links.Links.TheInside.{Inside}
 use Rattle.massif_cull.specs.Linked.{walk, unless_end, IsOutside, AreBelow, AreDifferent, AreLinked, links_of, IsLinked}
-use Rattle.massif_cull.proofs.Linking.{each-left, each-right, each-at, each-weaker, each-given, each-returned, contained-at, different-left, different-pop, different-given, different-returned, length-walk, walk-is, next-at, prev-at, prev-front, last-at, prev-holds, next-holds, last-holds, linked-remove, linked-push}
+use Rattle.massif_cull.proofs.Linking.{each-left, each-right, each-at, each-weaker, each-given, each-returned}
+use Rattle.massif_cull.proofs.Linking.{contained-at, different-left, different-pop, different-given, different-returned}
+use Rattle.massif_cull.proofs.Linking.{length-walk, walk-is, next-at, prev-at, prev-front, last-at, prev-holds}
+use Rattle.massif_cull.proofs.Linking.{next-holds, last-holds, linked-remove, linked-push}
 
 -- the places in their order
 abbrev pub places_of : Inside → List ℕ

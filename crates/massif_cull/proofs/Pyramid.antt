@@ -1,7 +1,9 @@
 -- The first of keys: what one choice of two says, that the top of a pyramid is the first of all, and how one is kept.
-use Rattle.std.proofs.Common.{◌≡◌, ◌⊎◌, ℕ, ◌+◌, ◌-◌, ◌/◌, ◌<◌, ◌≤◌, zero, suc, true, List, [], ◌∷◌, length, drop, map, set, get_or, inl, inr, refl, sym, ap, subst, ◌∙◌, arith}
+use Rattle.std.proofs.Common.{◌≡◌, ◌⊎◌, ℕ, ◌+◌, ◌-◌, ◌/◌, ◌<◌, ◌≤◌, zero, suc, true, List, [], ◌∷◌, length, drop, map}
+use Rattle.std.proofs.Common.{set, get_or, inl, inr, refl, sym, ap, subst, ◌∙◌, arith}
 use Rattle.std.proofs.lemmas.Bool.{cases_eq, cases_lt, lt-ltb, le-ltb}
-use Rattle.std.proofs.lemmas.List.{drop-set-add, get_or_default, get_or-set_same, get_or-set_other, get_or-drop, length-set, length-drop}
+use Rattle.std.proofs.lemmas.List.{drop-set-add, get_or_default, get_or-set_same, get_or-set_other, get_or-drop}
+use Rattle.std.proofs.lemmas.List.{length-set, length-drop}
 use Rattle.massif_cull.specs.declared.gaps.Key.{Key}
 use Rattle.massif_cull.specs.declared.gaps.Gaps.TheInside.{Inside}
 use Rattle.massif_cull.specs.Keys.{no_key, key_at, with_gap, first_of, IsNoLater, IsFirst, AreFirsts}

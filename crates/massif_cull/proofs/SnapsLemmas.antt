@@ -1,12 +1,15 @@
 -- What contracts see of linked snapshots, by their fields, before and after a call.
-use Rattle.std.proofs.Common.{◌≡◌, ◌≢◌, ℕ, ◌+◌, ◌-◌, ◌<◌, ◌≤◌, List, [], ◌∷◌, ◌++◌, length, map, set, get_or, Option, false, inl, inr, refl, sym, ap, subst, ◌∙◌, arith}
+use Rattle.std.proofs.Common.{◌≡◌, ◌≢◌, ℕ, ◌+◌, ◌-◌, ◌<◌, ◌≤◌, List, [], ◌∷◌, ◌++◌, length, map, set, get_or, Option}
+use Rattle.std.proofs.Common.{false, inl, inr, refl, sym, ap, subst, ◌∙◌, arith}
 use Rattle.std.specs.Prelude.{slice_get, remove, Contains, Some, None, IsSome, is_some}
 use Rattle.std.specs.Option.{option_map}
 use Rattle.std.proofs.lemmas.Bool.{cases_eq, cases_lt}
-use Rattle.std.proofs.lemmas.List.{get_or_default, get_or-set_other, get_or-set_same, length-map, map-append, length-set, length_push, nil_from_length}
+use Rattle.std.proofs.lemmas.List.{get_or_default, get_or-set_other, get_or-set_same, length-map, map-append}
+use Rattle.std.proofs.lemmas.List.{length-set, length_push, nil_from_length}
 use Rattle.std.proofs.lemmas.List.Edits.{length-remove}
 use Rattle.std.proofs.lemmas.Simd.{map-map}
-use Rattle.std.proofs.lemmas.Option.{none-some, same_Some, slice_get-map, slice_get_within, slice_get-get_or, get_or_from_slice_get}
+use Rattle.std.proofs.lemmas.Option.{none-some, same_Some, slice_get-map, slice_get_within, slice_get-get_or}
+use Rattle.std.proofs.lemmas.Option.{get_or_from_slice_get}
 use Rattle.massif_cull.specs.declared.linked.Held.{Held}
 use Rattle.massif_cull.specs.declared.linked.LinkedSnaps.TheInside.{Inside}
 use Rattle.massif_cull.specs.declared.snapshot.Kind.{Kind}
@@ -16,7 +19,8 @@ use Rattle.massif_cull.specs.Linked.{IsOutside, AreDifferent, AreBelow}
 use Rattle.massif_cull.specs.LinksState.{LinksState}
 use Rattle.massif_cull.specs.Held.{held_at, held_in, snaps_of, AreHeld, ended}
 use Rattle.massif_cull.proofs.Linking.{apart-at, each-append, each-at, each-from, each-remove, different-pop}
-use Rattle.massif_cull.proofs.HeldLemmas.{AreEnded, AreTaken, some-of, length-held, held-at, held-push, taken-push, held-remove, taken-remove, held-ended, taken-ended}
+use Rattle.massif_cull.proofs.HeldLemmas.{AreEnded, AreTaken, some-of, length-held, held-at, held-push, taken-push}
+use Rattle.massif_cull.proofs.HeldLemmas.{held-remove, taken-remove, held-ended, taken-ended}
 use Rattle.massif_cull.proofs.Places.{peak-of}
 use Rattle.massif_cull.proofs.Removals.{map-remove}
 

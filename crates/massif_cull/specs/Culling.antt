@@ -1,7 +1,8 @@
 -- Culling: which entries of a list are removed, and what is left. Culling removes half of the
 -- snapshots: each time the first of the least difference between the times of its neighbours, and
 -- neither the first, the last nor the peak.
-use Rattle.std.specs.Prelude.{ℕ, zero, suc, ◌+◌, ◌-◌, ◌/◌, Bool, not, ◌&&◌, nat_lt, nat_le, List, length, filter, find, remove, slice_index, Option}
+use Rattle.std.specs.Prelude.{ℕ, zero, suc, ◌+◌, ◌-◌, ◌/◌, Bool, not, ◌&&◌, nat_lt, nat_le, List, length, filter, find}
+use Rattle.std.specs.Prelude.{remove, slice_index, Option}
 use Rattle.std.specs.List.{list_all, range_with_len}
 use Rattle.std.specs.Option.{option_map_or}
 use Rattle.massif_cull.specs.declared.snapshot.SnapEntry.{SnapEntry}

@@ -1,5 +1,6 @@
 -- Links are different places, each linked to the one after it and to the one before it, both ways.
-use Rattle.std.specs.Prelude.{◌≡◌, ◌≢◌, ℕ, zero, suc, ◌+◌, ◌-◌, ◌<◌, ◌≤◌, ◌==◌, if◌then◌else◌, List, [], ◌∷◌, ◌++◌, length, slice_index, Option, Some, None, vec_capacity}
+use Rattle.std.specs.Prelude.{◌≡◌, ◌≢◌, ℕ, zero, suc, ◌+◌, ◌-◌, ◌<◌, ◌≤◌, ◌==◌, if◌then◌else◌, List, [], ◌∷◌, ◌++◌}
+use Rattle.std.specs.Prelude.{length, slice_index, Option, Some, None, vec_capacity}
 use Rattle.massif_cull.specs.declared.links.Links.TheInside.{Inside}
 use Rattle.massif_cull.specs.LinksState.{LinksState}
 

@@ -1,35 +1,6 @@
 -- The lines of a profile are taken, one after another, and the profile is what they say.
-use Rattle.std.proofs.Common.{
-  ◌≡◌,
-  ℕ,
-  suc,
-  ◌<◌,
-  ◌≤◌,
-  Bool,
-  true,
-  false,
-  cond,
-  eqb,
-  ltb,
-  List,
-  [],
-  ◌∷◌,
-  ◌++◌,
-  length,
-  map,
-  Option,
-  Some,
-  None,
-  Ok,
-  refl,
-  sym,
-  ap,
-  subst,
-  ◌∙◌,
-  append_assoc,
-  arith,
-  eq-eqb,
-}
+use Rattle.std.proofs.Common.{◌≡◌, ℕ, suc, ◌<◌, ◌≤◌, Bool, true, false, cond, eqb, ltb, List, [], ◌∷◌, ◌++◌, length}
+use Rattle.std.proofs.Common.{map, Option, Some, None, Ok, refl, sym, ap, subst, ◌∙◌, append_assoc, arith, eq-eqb}
 use Rattle.std.specs.Prelude.{codes, not}
 use Rattle.std.proofs.lemmas.Bool.{le-ltb, eqb-true}
 use Rattle.std.specs.Option.{option_map}
@@ -47,28 +18,9 @@ use Rattle.massif_file.specs.IsProfile.{saying}
 use Rattle.massif_file.specs.Items.{Item, node_item, Say, snap_items, snaps_items, items_of}
 use Rattle.massif_file.specs.Levels.{after_line}
 use Rattle.massif_file.specs.TreeLineOf.{tree_line_of}
-use Rattle.massif_file.specs.Progress.{
-  Progress,
-  in_descriptions,
-  at_unit,
-  at_snapshot,
-  at_time,
-  at_heap,
-  at_extra,
-  at_stacks,
-  at_mark,
-  in_tree,
-  refused_for,
-  go_on,
-  with_snap,
-  with_line,
-  after_header_line,
-  after_mark,
-  after_levels,
-  after_tree_line,
-  taken,
-  after_all,
-}
+use Rattle.massif_file.specs.Progress.{Progress, in_descriptions, at_unit, at_snapshot, at_time, at_heap, at_extra}
+use Rattle.massif_file.specs.Progress.{at_stacks, at_mark, in_tree, refused_for, go_on, with_snap, with_line}
+use Rattle.massif_file.specs.Progress.{after_header_line, after_mark, after_levels, after_tree_line, taken, after_all}
 use Rattle.massif_file.specs.Descriptions.{joined, Describe}
 use Rattle.massif_file.specs.LastTime.{last_time}
 use Rattle.massif_file.specs.IsRight.{IsTreeOf, AreRight}

@@ -1,78 +1,23 @@
 -- No line is refused as truncated: that comes at the end alone.
-use Rattle.std.proofs.Common.{
-  ◌≡◌,
-  ℕ,
-  Bool,
-  true,
-  false,
-  cond,
-  eqb,
-  ltb,
-  List,
-  [],
-  ◌∷◌,
-  length,
-  Option,
-  Some,
-  None,
-  Result,
-  Ok,
-  Err,
-  sym,
-  ap,
-  ◌∙◌,
-}
+use Rattle.std.proofs.Common.{◌≡◌, ℕ, Bool, true, false, cond, eqb, ltb, List, [], ◌∷◌, length, Option, Some, None}
+use Rattle.std.proofs.Common.{Result, Ok, Err, sym, ap, ◌∙◌}
 use Rattle.std.specs.Prelude.{codes, IfErr}
 use Rattle.std.proofs.lemmas.Result.{IfErr-at_err}
 use Rattle.massif_file.specs.declared.fault.ProfileFault.{ProfileFault}
-use Rattle.massif_file.specs.declared.fault.ProfileFault.TheVariants.{
-  BadHeader,
-  BadSnapshot,
-  BadNumber,
-  WrongOrder,
-  BadTree,
-  Truncated,
-}
+use Rattle.massif_file.specs.declared.fault.ProfileFault.TheVariants.{BadHeader, BadSnapshot, BadNumber, WrongOrder}
+use Rattle.massif_file.specs.declared.fault.ProfileFault.TheVariants.{BadTree, Truncated}
 use Rattle.massif_file.specs.declared.profile.HeapTree.{HeapTree}
 use Rattle.massif_file.specs.declared.profile.HeapTree.TheVariants.{Empty, Detailed, Peak}
 use Rattle.massif_file.specs.declared.profile.Snap.{Snap}
 use Rattle.massif_file.specs.declared.profile.Profile.{Profile}
 use Rattle.massif_file.specs.Blanks.{is_skipped}
-use Rattle.massif_file.specs.Fields.{
-  value_after,
-  header_value,
-  max_number,
-  number_of,
-  or_fault,
-  number_in,
-  key_number,
-  unit_in,
-  mark_in,
-}
+use Rattle.massif_file.specs.Fields.{value_after, header_value, max_number, number_of, or_fault, number_in, key_number}
+use Rattle.massif_file.specs.Fields.{unit_in, mark_in}
 use Rattle.massif_file.specs.Levels.{after_line}
 use Rattle.massif_file.specs.TreeLineOf.{tree_line_of}
-use Rattle.massif_file.specs.Progress.{
-  Progress,
-  in_descriptions,
-  at_unit,
-  at_snapshot,
-  at_time,
-  at_heap,
-  at_extra,
-  at_stacks,
-  at_mark,
-  in_tree,
-  refused_for,
-  go_on,
-  with_line,
-  after_header_line,
-  after_mark,
-  after_levels,
-  after_tree_line,
-  taken,
-  after,
-  fault_in,
-}
+use Rattle.massif_file.specs.Progress.{Progress, in_descriptions, at_unit, at_snapshot, at_time, at_heap, at_extra}
+use Rattle.massif_file.specs.Progress.{at_stacks, at_mark, in_tree, refused_for, go_on, with_line, after_header_line}
+use Rattle.massif_file.specs.Progress.{after_mark, after_levels, after_tree_line, taken, after, fault_in}
 use Rattle.massif_file.specs.LastTime.{last_time}
 use Rattle.massif_file.specs.UnlessNoMemory.{UnlessNoMemory}
 

@@ -1,37 +1,6 @@
 -- The function and the relations say the same of all lines.
-use Rattle.std.proofs.Common.{
-  ◌≡◌,
-  ℕ,
-  suc,
-  ◌+◌,
-  ◌<◌,
-  Bool,
-  true,
-  false,
-  cond,
-  ltb,
-  List,
-  [],
-  ◌∷◌,
-  ◌++◌,
-  length,
-  Option,
-  Some,
-  None,
-  Result,
-  Ok,
-  Err,
-  refl,
-  sym,
-  ap,
-  subst,
-  ◌∙◌,
-  arith,
-  inl,
-  inr,
-  lt-ltb,
-  ltb-true,
-}
+use Rattle.std.proofs.Common.{◌≡◌, ℕ, suc, ◌+◌, ◌<◌, Bool, true, false, cond, ltb, List, [], ◌∷◌, ◌++◌, length, Option}
+use Rattle.std.proofs.Common.{Some, None, Result, Ok, Err, refl, sym, ap, subst, ◌∙◌, arith, inl, inr, lt-ltb, ltb-true}
 use Rattle.std.specs.Prelude.{◌⊎◌, All, IfOk, IfErr}
 use Rattle.massif_file.specs.declared.fault.ProfileFault.{ProfileFault}
 use Rattle.massif_file.specs.declared.fault.ProfileFault.TheVariants.{Truncated}
@@ -41,25 +10,9 @@ use Rattle.massif_file.specs.IsProfile.{is_profile, saying}
 use Rattle.massif_file.specs.ProfileFault.{IsRefusedLine, IsTruncated, profile_fault}
 use Rattle.massif_file.specs.ProfileOf.{at_line, unless_refused, read_from, profile_of}
 use Rattle.massif_file.specs.StandsFor.{StandsFor}
-use Rattle.massif_file.specs.Progress.{
-  Progress,
-  in_descriptions,
-  at_unit,
-  at_snapshot,
-  at_time,
-  at_heap,
-  at_extra,
-  at_stacks,
-  at_mark,
-  in_tree,
-  refused_for,
-  taken,
-  after,
-  after_all,
-  progress_of,
-  fault_in,
-  end_of,
-}
+use Rattle.massif_file.specs.Progress.{Progress, in_descriptions, at_unit, at_snapshot, at_time, at_heap, at_extra}
+use Rattle.massif_file.specs.Progress.{at_stacks, at_mark, in_tree, refused_for, taken, after, after_all, progress_of}
+use Rattle.massif_file.specs.Progress.{fault_in, end_of}
 use Rattle.massif_file.specs.UnlessNoMemory.{UnlessNoMemory}
 use Rattle.massif_file.proofs.Complete.{after_all-saying, run_all}
 use Rattle.massif_file.specs.IsWritable.{IsLine, IsWritable}

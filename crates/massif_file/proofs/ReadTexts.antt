@@ -1,35 +1,6 @@
 -- What is read may be written: its numbers are at most 2 ^ 62, and its texts are of one line and begin with no blank.
-use Rattle.std.proofs.Common.{
-  ◌≡◌,
-  ◌≢◌,
-  ℕ,
-  suc,
-  ◌+◌,
-  ◌<◌,
-  ◌≤◌,
-  ◌^◌,
-  Bool,
-  true,
-  false,
-  cond,
-  eqb,
-  leb,
-  List,
-  [],
-  ◌∷◌,
-  ◌++◌,
-  length,
-  map,
-  Option,
-  Some,
-  None,
-  Ok,
-  refl,
-  subst,
-  arith,
-  All,
-  leb-true,
-}
+use Rattle.std.proofs.Common.{◌≡◌, ◌≢◌, ℕ, suc, ◌+◌, ◌<◌, ◌≤◌, ◌^◌, Bool, true, false, cond, eqb, leb, List, [], ◌∷◌}
+use Rattle.std.proofs.Common.{◌++◌, length, map, Option, Some, None, Ok, refl, subst, arith, All, leb-true}
 use Rattle.std.specs.Prelude.{codes, not, slice_get}
 use Rattle.std.specs.Option.{option_map, option_and_then}
 use Rattle.std.proofs.lemmas.Bool.{eqb-false}
@@ -41,16 +12,8 @@ use Rattle.massif_file.specs.TreeLine.{TreeLine}
 use Rattle.massif_file.specs.declared.profile.Snap.{Snap}
 use Rattle.massif_file.specs.declared.profile.Profile.{Profile}
 use Rattle.massif_file.specs.Blanks.{without_blanks, before_byte, from_byte, is_skipped}
-use Rattle.massif_file.specs.Fields.{
-  value_after,
-  header_value,
-  at_most,
-  number_of,
-  max_number,
-  or_fault,
-  number_in,
-  key_number,
-}
+use Rattle.massif_file.specs.Fields.{value_after, header_value, at_most, number_of, max_number, or_fault, number_in}
+use Rattle.massif_file.specs.Fields.{key_number}
 use Rattle.massif_file.specs.IsProfile.{is_profile}
 use Rattle.massif_file.specs.Items.{node_item, Say, snap_items, snaps_items, items_of}
 use Rattle.massif_file.specs.TreeLineOf.{sized_line, counted_line, tree_line_of}

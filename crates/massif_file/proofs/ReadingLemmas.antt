@@ -1,64 +1,18 @@
 -- What one call of the reader says of the whole list of lines.
-use Rattle.std.proofs.Common.{
-  ◌≡◌,
-  ℕ,
-  suc,
-  ◌+◌,
-  Bool,
-  true,
-  false,
-  cond,
-  List,
-  [],
-  ◌∷◌,
-  ◌++◌,
-  length,
-  Option,
-  None,
-  Result,
-  Ok,
-  Err,
-  refl,
-  sym,
-  ap,
-  ◌∙◌,
-  arith,
-}
+use Rattle.std.proofs.Common.{◌≡◌, ℕ, suc, ◌+◌, Bool, true, false, cond, List, [], ◌∷◌, ◌++◌, length, Option, None}
+use Rattle.std.proofs.Common.{Result, Ok, Err, refl, sym, ap, ◌∙◌, arith}
 use Rattle.std.specs.Prelude.{IfOk, IfErr}
 use Rattle.std.proofs.lemmas.List.{append-nil}
 use Rattle.massif_file.specs.declared.fault.ProfileFault.{ProfileFault}
-use Rattle.massif_file.specs.declared.fault.ProfileFault.TheVariants.{
-  BadHeader,
-  BadSnapshot,
-  BadNumber,
-  WrongOrder,
-  BadTree,
-  Truncated,
-  NoMemory,
-}
+use Rattle.massif_file.specs.declared.fault.ProfileFault.TheVariants.{BadHeader, BadSnapshot, BadNumber, WrongOrder}
+use Rattle.massif_file.specs.declared.fault.ProfileFault.TheVariants.{BadTree, Truncated, NoMemory}
 use Rattle.massif_file.specs.declared.profile.Profile.{Profile}
 use Rattle.massif_file.specs.Blanks.{is_skipped}
 use Rattle.massif_file.specs.ProfileOf.{at_line, unless_refused, read_from, profile_of}
 use Rattle.massif_file.specs.StandsFor.{StandsFor}
-use Rattle.massif_file.specs.Progress.{
-  Progress,
-  in_descriptions,
-  at_unit,
-  at_snapshot,
-  at_time,
-  at_heap,
-  at_extra,
-  at_stacks,
-  at_mark,
-  in_tree,
-  refused_for,
-  taken,
-  after,
-  after_all,
-  progress_of,
-  fault_in,
-  end_of,
-}
+use Rattle.massif_file.specs.Progress.{Progress, in_descriptions, at_unit, at_snapshot, at_time, at_heap, at_extra}
+use Rattle.massif_file.specs.Progress.{at_stacks, at_mark, in_tree, refused_for, taken, after, after_all, progress_of}
+use Rattle.massif_file.specs.Progress.{fault_in, end_of}
 use Rattle.massif_file.specs.UnlessNoMemory.{UnlessNoMemory}
 
 -- a claim that holds, holds unless memory is wanting

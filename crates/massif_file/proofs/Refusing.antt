@@ -1,48 +1,14 @@
 -- A line that the reader refuses is one that can't follow the lines before it, for that fault.
-use Rattle.std.proofs.Common.{
-  ◌≡◌,
-  ℕ,
-  Bool,
-  true,
-  false,
-  cond,
-  eqb,
-  ltb,
-  List,
-  [],
-  ◌∷◌,
-  length,
-  Option,
-  Some,
-  None,
-  Result,
-  Ok,
-  Err,
-  refl,
-  sym,
-  ap,
-  subst,
-  ◌∙◌,
-  arith,
-  inl,
-  inr,
-  eq-eqb,
-  ltb-true,
-}
+use Rattle.std.proofs.Common.{◌≡◌, ℕ, Bool, true, false, cond, eqb, ltb, List, [], ◌∷◌, length, Option, Some, None}
+use Rattle.std.proofs.Common.{Result, Ok, Err, refl, sym, ap, subst, ◌∙◌, arith, inl, inr, eq-eqb, ltb-true}
 use Rattle.std.specs.Prelude.{codes}
 use Rattle.std.specs.Option.{option_map}
 use Rattle.std.proofs.lemmas.Bool.{ltb-false}
 use Rattle.std.proofs.lemmas.List.{append-nil}
 use Rattle.std.proofs.lemmas.Option.{same_Some}
 use Rattle.massif_file.specs.declared.fault.ProfileFault.{ProfileFault}
-use Rattle.massif_file.specs.declared.fault.ProfileFault.TheVariants.{
-  BadHeader,
-  BadSnapshot,
-  BadNumber,
-  WrongOrder,
-  BadTree,
-  Truncated,
-}
+use Rattle.massif_file.specs.declared.fault.ProfileFault.TheVariants.{BadHeader, BadSnapshot, BadNumber, WrongOrder}
+use Rattle.massif_file.specs.declared.fault.ProfileFault.TheVariants.{BadTree, Truncated}
 use Rattle.massif_file.specs.declared.profile.TimeUnit.{TimeUnit}
 use Rattle.massif_file.specs.declared.profile.HeapTree.{HeapTree}
 use Rattle.massif_file.specs.declared.profile.HeapTree.TheVariants.{Empty, Detailed, Peak}
@@ -51,41 +17,13 @@ use Rattle.massif_file.specs.declared.profile.Snap.{Snap}
 use Rattle.massif_file.specs.declared.profile.Profile.{Profile}
 use Rattle.massif_file.specs.Begins.{Begins, InSnapshot, InTree}
 use Rattle.massif_file.specs.Blanks.{without_blanks}
-use Rattle.massif_file.specs.Fields.{
-  value_after,
-  header_value,
-  max_number,
-  number_of,
-  number_in,
-  key_number,
-  or_fault,
-  unit_in,
-  mark_in,
-}
+use Rattle.massif_file.specs.Fields.{value_after, header_value, max_number, number_of, number_in, key_number, or_fault}
+use Rattle.massif_file.specs.Fields.{unit_in, mark_in}
 use Rattle.massif_file.specs.Items.{items_of}
 use Rattle.massif_file.specs.Levels.{after_line}
-use Rattle.massif_file.specs.Progress.{
-  Progress,
-  in_descriptions,
-  at_unit,
-  at_snapshot,
-  at_time,
-  at_heap,
-  at_extra,
-  at_stacks,
-  at_mark,
-  in_tree,
-  refused_for,
-  go_on,
-  with_line,
-  after_header_line,
-  after_mark,
-  after_levels,
-  after_tree_line,
-  taken,
-  fault_in,
-  end_of,
-}
+use Rattle.massif_file.specs.Progress.{Progress, in_descriptions, at_unit, at_snapshot, at_time, at_heap, at_extra}
+use Rattle.massif_file.specs.Progress.{at_stacks, at_mark, in_tree, refused_for, go_on, with_line, after_header_line}
+use Rattle.massif_file.specs.Progress.{after_mark, after_levels, after_tree_line, taken, fault_in, end_of}
 use Rattle.massif_file.specs.LastTime.{last_time}
 use Rattle.massif_file.specs.Descriptions.{Describe}
 use Rattle.massif_file.specs.Refuses.{AwaitsNumber, AwaitsMark, Refuses, EndsEarly}

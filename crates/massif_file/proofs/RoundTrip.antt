@@ -1,44 +1,7 @@
 -- The lines of a profile that may be written are read as that profile.
-use Rattle.std.proofs.Common.{
-  ◌≡◌,
-  ◌≢◌,
-  ℕ,
-  zero,
-  suc,
-  ◌+◌,
-  ◌-◌,
-  ◌<◌,
-  ◌≤◌,
-  ◌^◌,
-  Bool,
-  true,
-  false,
-  cond,
-  eqb,
-  List,
-  [],
-  ◌∷◌,
-  ◌++◌,
-  length,
-  map,
-  Option,
-  Some,
-  None,
-  Ok,
-  refl,
-  sym,
-  ap,
-  subst,
-  ◌∙◌,
-  arith,
-  decimal,
-  get_or,
-  All,
-  le-leb,
-  eq-eqb,
-  inl,
-  inr,
-}
+use Rattle.std.proofs.Common.{◌≡◌, ◌≢◌, ℕ, zero, suc, ◌+◌, ◌-◌, ◌<◌, ◌≤◌, ◌^◌, Bool, true, false, cond, eqb, List, []}
+use Rattle.std.proofs.Common.{◌∷◌, ◌++◌, length, map, Option, Some, None, Ok, refl, sym, ap, subst, ◌∙◌, arith, decimal}
+use Rattle.std.proofs.Common.{get_or, All, le-leb, eq-eqb, inl, inr}
 use Rattle.std.specs.Prelude.{codes, not, slice_get, ◌⊎◌}
 use Rattle.std.specs.List.{list_all}
 use Rattle.std.specs.Option.{option_map, option_and_then}
@@ -56,39 +19,16 @@ use Rattle.massif_file.specs.TreeLine.{TreeLine}
 use Rattle.massif_file.specs.declared.profile.Snap.{Snap}
 use Rattle.massif_file.specs.declared.profile.Profile.{Profile}
 use Rattle.massif_file.specs.Blanks.{is_blank, without_blanks, before_byte, from_byte, is_skipped, blanks}
-use Rattle.massif_file.specs.Fields.{
-  value_after,
-  header_value,
-  at_most,
-  number_of,
-  max_number,
-  or_fault,
-  number_in,
-  key_number,
-  unit_of,
-  unit_name,
-  mark_of,
-  mark_name,
-  unit_in,
-  mark_in,
-}
+use Rattle.massif_file.specs.Fields.{value_after, header_value, at_most, number_of, max_number, or_fault, number_in}
+use Rattle.massif_file.specs.Fields.{key_number, unit_of, unit_name, mark_of, mark_name, unit_in, mark_in}
 use Rattle.massif_file.specs.IsProfile.{is_profile, saying}
 use Rattle.massif_file.specs.Items.{Item, node_item, Say, snap_items, snaps_items}
 use Rattle.massif_file.specs.Levels.{after_line}
 use Rattle.massif_file.specs.TreeLineOf.{sized_line, counted_line, tree_line_of}
 use Rattle.massif_file.specs.Descriptions.{joined}
 use Rattle.massif_file.specs.IsWritable.{IsLine, IsText, IsWritableLine, IsWritableSnap, IsWritable}
-use Rattle.massif_file.specs.MassifText.{
-  node_text,
-  tree_lines,
-  separator,
-  head_lines,
-  size_lines,
-  mark_lines,
-  snap_lines,
-  snaps_lines,
-  massif_lines,
-}
+use Rattle.massif_file.specs.MassifText.{node_text, tree_lines, separator, head_lines, size_lines, mark_lines}
+use Rattle.massif_file.specs.MassifText.{snap_lines, snaps_lines, massif_lines}
 
 -- what is known of decimal texts
 pub record Decimals : Type 0 where

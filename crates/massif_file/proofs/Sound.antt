@@ -1,37 +1,7 @@
 -- What is taken of a file's lines says so: the lines so far are the beginning of a profile's.
-use Rattle.std.proofs.Common.{
-  ◌≡◌,
-  ℕ,
-  suc,
-  ◌+◌,
-  ◌-◌,
-  ◌<◌,
-  ◌≤◌,
-  Bool,
-  true,
-  false,
-  cond,
-  eqb,
-  ltb,
-  List,
-  [],
-  ◌∷◌,
-  ◌++◌,
-  length,
-  Option,
-  Some,
-  None,
-  Result,
-  Ok,
-  Err,
-  refl,
-  sym,
-  ap,
-  subst,
-  ◌∙◌,
-  append_assoc,
-  arith,
-}
+use Rattle.std.proofs.Common.{◌≡◌, ℕ, suc, ◌+◌, ◌-◌, ◌<◌, ◌≤◌, Bool, true, false, cond, eqb, ltb, List, [], ◌∷◌, ◌++◌}
+use Rattle.std.proofs.Common.{length, Option, Some, None, Result, Ok, Err, refl, sym, ap, subst, ◌∙◌, append_assoc}
+use Rattle.std.proofs.Common.{arith}
 use Rattle.std.specs.Prelude.{codes, slice_get}
 use Rattle.std.proofs.lemmas.Bool.{eqb-true, ltb-false}
 use Rattle.std.proofs.lemmas.List.{append-nil, map-append}
@@ -44,42 +14,13 @@ use Rattle.massif_file.specs.TreeLine.{TreeLine}
 use Rattle.massif_file.specs.declared.profile.Snap.{Snap}
 use Rattle.massif_file.specs.declared.profile.Profile.{Profile}
 use Rattle.massif_file.specs.Fields.{value_after, header_value, key_number, or_fault, unit_in, mark_in}
-use Rattle.massif_file.specs.Items.{
-  Item,
-  command_item,
-  unit_item,
-  number_item,
-  mark_item,
-  node_item,
-  Says,
-  Say,
-  snap_items,
-  snaps_items,
-  items_of,
-}
+use Rattle.massif_file.specs.Items.{Item, command_item, unit_item, number_item, mark_item, node_item, Says, Say}
+use Rattle.massif_file.specs.Items.{snap_items, snaps_items, items_of}
 use Rattle.massif_file.specs.Levels.{after_line}
 use Rattle.massif_file.specs.TreeLineOf.{tree_line_of}
-use Rattle.massif_file.specs.Progress.{
-  Progress,
-  in_descriptions,
-  at_unit,
-  at_snapshot,
-  at_time,
-  at_heap,
-  at_extra,
-  at_stacks,
-  at_mark,
-  in_tree,
-  refused_for,
-  go_on,
-  with_snap,
-  with_line,
-  after_header_line,
-  after_mark,
-  after_levels,
-  after_tree_line,
-  taken,
-}
+use Rattle.massif_file.specs.Progress.{Progress, in_descriptions, at_unit, at_snapshot, at_time, at_heap, at_extra}
+use Rattle.massif_file.specs.Progress.{at_stacks, at_mark, in_tree, refused_for, go_on, with_snap, with_line}
+use Rattle.massif_file.specs.Progress.{after_header_line, after_mark, after_levels, after_tree_line, taken}
 use Rattle.massif_file.specs.Descriptions.{joined, Describe}
 use Rattle.massif_file.specs.LastTime.{time_of, last_time}
 use Rattle.massif_file.specs.IsRight.{IsTreeOf, AreRight}

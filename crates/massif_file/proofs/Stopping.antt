@@ -1,54 +1,15 @@
 -- A line that can't follow the lines before it is refused by the reader, for that fault.
-use Rattle.std.proofs.Common.{
-  ◌≡◌,
-  ℕ,
-  ◌<◌,
-  ◌≤◌,
-  zero,
-  suc,
-  Bool,
-  true,
-  false,
-  cond,
-  eqb,
-  ltb,
-  List,
-  [],
-  ◌∷◌,
-  ◌++◌,
-  length,
-  map,
-  Option,
-  Some,
-  None,
-  Result,
-  Ok,
-  Err,
-  refl,
-  sym,
-  ap,
-  subst,
-  ◌∙◌,
-  arith,
-  inl,
-  inr,
-  lt-ltb,
-}
+use Rattle.std.proofs.Common.{◌≡◌, ℕ, ◌<◌, ◌≤◌, zero, suc, Bool, true, false, cond, eqb, ltb, List, [], ◌∷◌, ◌++◌}
+use Rattle.std.proofs.Common.{length, map, Option, Some, None, Result, Ok, Err, refl, sym, ap, subst, ◌∙◌, arith, inl}
+use Rattle.std.proofs.Common.{inr, lt-ltb}
 use Rattle.std.specs.Prelude.{◌⊎◌, codes, slice_get}
 use Rattle.std.proofs.lemmas.Bool.{eqb-true, cases_Bool}
 use Rattle.std.specs.Option.{option_map}
 use Rattle.std.proofs.lemmas.List.{append-nil}
 use Rattle.std.proofs.lemmas.Option.{same_Some}
 use Rattle.massif_file.specs.declared.fault.ProfileFault.{ProfileFault}
-use Rattle.massif_file.specs.declared.fault.ProfileFault.TheVariants.{
-  BadHeader,
-  BadSnapshot,
-  BadNumber,
-  WrongOrder,
-  BadTree,
-  Truncated,
-  NoMemory,
-}
+use Rattle.massif_file.specs.declared.fault.ProfileFault.TheVariants.{BadHeader, BadSnapshot, BadNumber, WrongOrder}
+use Rattle.massif_file.specs.declared.fault.ProfileFault.TheVariants.{BadTree, Truncated, NoMemory}
 use Rattle.massif_file.specs.declared.profile.TimeUnit.{TimeUnit}
 use Rattle.massif_file.specs.declared.profile.HeapTree.{HeapTree}
 use Rattle.massif_file.specs.declared.profile.HeapTree.TheVariants.{Empty, Detailed, Peak}
@@ -62,61 +23,18 @@ use Rattle.massif_file.specs.IsRight.{AreRight}
 use Rattle.massif_file.specs.Items.{Item, command_item, mark_item, node_item, Says, Say, items_of, snap_items}
 use Rattle.massif_file.specs.Leads.{Leads}
 use Rattle.massif_file.specs.Levels.{after_line}
-use Rattle.massif_file.specs.Progress.{
-  Progress,
-  in_descriptions,
-  at_unit,
-  at_snapshot,
-  at_time,
-  at_heap,
-  at_extra,
-  at_stacks,
-  at_mark,
-  in_tree,
-  refused_for,
-  go_on,
-  with_line,
-  after_header_line,
-  after_mark,
-  after_levels,
-  after_tree_line,
-  taken,
-  fault_in,
-  end_of,
-}
+use Rattle.massif_file.specs.Progress.{Progress, in_descriptions, at_unit, at_snapshot, at_time, at_heap, at_extra}
+use Rattle.massif_file.specs.Progress.{at_stacks, at_mark, in_tree, refused_for, go_on, with_line, after_header_line}
+use Rattle.massif_file.specs.Progress.{after_mark, after_levels, after_tree_line, taken, fault_in, end_of}
 use Rattle.massif_file.specs.LastTime.{last_time}
 use Rattle.massif_file.specs.Descriptions.{Describe}
-use Rattle.massif_file.specs.Refuses.{
-  number_keys,
-  AwaitsNumber,
-  AwaitsMark,
-  IsBadHeader,
-  IsBadSnapshot,
-  IsBadNumber,
-  IsWrongOrder,
-  IsBadTree,
-  Refuses,
-  EndsEarly,
-}
+use Rattle.massif_file.specs.Refuses.{number_keys, AwaitsNumber, AwaitsMark, IsBadHeader, IsBadSnapshot, IsBadNumber}
+use Rattle.massif_file.specs.Refuses.{IsWrongOrder, IsBadTree, Refuses, EndsEarly}
 use Rattle.massif_file.specs.Refuses as early
 use Rattle.massif_file.specs.TreeLineOf.{tree_line_of}
-use Rattle.massif_file.proofs.Complete.{
-  take_all-append,
-  run_descriptions,
-  run_command,
-  run_place,
-  run_time,
-  run_heap,
-  run_extra,
-  run_stacks,
-  run_mark,
-  run_node,
-  run_items,
-  Say-split,
-  with_lines,
-  mutual_lines,
-  started,
-}
+use Rattle.massif_file.proofs.Complete.{take_all-append, run_descriptions, run_command, run_place, run_time, run_heap}
+use Rattle.massif_file.proofs.Complete.{run_extra, run_stacks, run_mark, run_node, run_items, Say-split, with_lines}
+use Rattle.massif_file.proofs.Complete.{mutual_lines, started}
 use Rattle.massif_file.proofs.Sound.{take_all, one_item, two_items, three_items, four_items, five_items}
 
 -- ---- where the lines lead

@@ -1,33 +1,6 @@
 -- How the text of a profile grows, piece by piece.
-use Rattle.std.proofs.Common.{
-  ◌≡◌,
-  ℕ,
-  zero,
-  suc,
-  ◌+◌,
-  ◌-◌,
-  ◌<◌,
-  ◌≤◌,
-  List,
-  [],
-  ◌∷◌,
-  ◌++◌,
-  length,
-  get_or,
-  drop,
-  take,
-  replicate,
-  set,
-  arith,
-  refl,
-  sym,
-  ap,
-  ◌∙◌,
-  append_assoc,
-  add-one,
-  drop-cons,
-  length-take,
-}
+use Rattle.std.proofs.Common.{◌≡◌, ℕ, zero, suc, ◌+◌, ◌-◌, ◌<◌, ◌≤◌, List, [], ◌∷◌, ◌++◌, length, get_or, drop, take}
+use Rattle.std.proofs.Common.{replicate, set, arith, refl, sym, ap, ◌∙◌, append_assoc, add-one, drop-cons, length-take}
 use Rattle.std.proofs.lemmas.Grind.{drop-set_at}
 use Rattle.std.proofs.lemmas.List.{drop-append-le, drop-replicate, length-take-le, take-append-drop, take_all}
 use Rattle.massif_file.specs.TreeLine.{TreeLine}

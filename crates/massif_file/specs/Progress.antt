@@ -1,31 +1,10 @@
 -- What the lines of a Massif file say up to some line, and what may come next. What the reader
 -- knows after some lines; a law ties it to the sentences below.
-use Rattle.std.specs.Prelude.{
-  ℕ,
-  ◌==◌,
-  nat_lt,
-  if◌then◌else◌,
-  List,
-  [],
-  ◌∷◌,
-  ◌++◌,
-  length,
-  Option,
-  Some,
-  None,
-  Result,
-  Ok,
-  Err,
-  codes,
-}
+use Rattle.std.specs.Prelude.{ℕ, ◌==◌, nat_lt, if◌then◌else◌, List, [], ◌∷◌, ◌++◌, length, Option, Some, None, Result}
+use Rattle.std.specs.Prelude.{Ok, Err, codes}
 use Rattle.massif_file.specs.declared.fault.ProfileFault.{ProfileFault}
-use Rattle.massif_file.specs.declared.fault.ProfileFault.TheVariants.{
-  BadHeader,
-  BadSnapshot,
-  WrongOrder,
-  BadTree,
-  Truncated,
-}
+use Rattle.massif_file.specs.declared.fault.ProfileFault.TheVariants.{BadHeader, BadSnapshot, WrongOrder, BadTree}
+use Rattle.massif_file.specs.declared.fault.ProfileFault.TheVariants.{Truncated}
 use Rattle.massif_file.specs.declared.profile.HeapTree.{HeapTree}
 use Rattle.massif_file.specs.declared.profile.HeapTree.TheVariants.{Empty, Detailed, Peak}
 use Rattle.massif_file.specs.TreeLine.{TreeLine}

@@ -1,5 +1,6 @@
 -- What the calls of the reader do: a line is taken or refused, and at the end the profile is given or lent, which is that of all lines.
-use Rattle.std.specs.Prelude.{◌≡◌, ◌≢◌, ℕ, ◌+◌, List, [], ◌∷◌, ◌++◌, length, Result, Ok, Err, None, All, IfOk, IfErr, IsOkAnd, OnOk}
+use Rattle.std.specs.Prelude.{◌≡◌, ◌≢◌, ℕ, ◌+◌, List, [], ◌∷◌, ◌++◌, length, Result, Ok, Err, None, All, IfOk, IfErr}
+use Rattle.std.specs.Prelude.{IsOkAnd, OnOk}
 use Rattle.std.specs.Borrow.{Bor}
 use Rattle.massif_file.specs.declared.fault.ProfileFault.{ProfileFault}
 use Rattle.massif_file.specs.declared.fault.ProfileFault.TheVariants as faults

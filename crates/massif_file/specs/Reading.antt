@@ -4,20 +4,8 @@ use Rattle.massif_file.specs.declared.fault.ProfileFault.{ProfileFault}
 use Rattle.massif_file.specs.declared.reading.Stage.{Stage}
 use Rattle.massif_file.specs.declared.reading.Stage.TheVariants as stage
 use Rattle.massif_file.specs.declared.reading.Reading.{Reading}
-use Rattle.massif_file.specs.Progress.{
-  Progress,
-  in_descriptions,
-  at_unit,
-  at_snapshot,
-  at_time,
-  at_heap,
-  at_extra,
-  at_stacks,
-  at_mark,
-  in_tree,
-  refused_for,
-  fault_in,
-}
+use Rattle.massif_file.specs.Progress.{Progress, in_descriptions, at_unit, at_snapshot, at_time, at_heap, at_extra}
+use Rattle.massif_file.specs.Progress.{at_stacks, at_mark, in_tree, refused_for, fault_in}
 use Rattle.massif_file.specs.UnlessNoMemory.{UnlessNoMemory}
 
 abbrev pub shown_at : Stage → Reading → Progress

@@ -2,15 +2,8 @@
 -- one case a fault.
 use Rattle.std.specs.Prelude.{◌≡◌, ◌≢◌, ◌⊎◌, ℕ, ◌<◌, ◌≤◌, List, [], ◌∷◌, length, Some, None, slice_get, codes}
 use Rattle.massif_file.specs.declared.fault.ProfileFault.{ProfileFault}
-use Rattle.massif_file.specs.declared.fault.ProfileFault.TheVariants.{
-  BadHeader,
-  BadSnapshot,
-  BadNumber,
-  WrongOrder,
-  BadTree,
-  Truncated,
-  NoMemory,
-}
+use Rattle.massif_file.specs.declared.fault.ProfileFault.TheVariants.{BadHeader, BadSnapshot, BadNumber, WrongOrder}
+use Rattle.massif_file.specs.declared.fault.ProfileFault.TheVariants.{BadTree, Truncated, NoMemory}
 use Rattle.massif_file.specs.declared.profile.TimeUnit.{TimeUnit}
 use Rattle.massif_file.specs.declared.profile.HeapTree.{HeapTree}
 use Rattle.massif_file.specs.TreeLine.{TreeLine}

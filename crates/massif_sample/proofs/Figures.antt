@@ -15,7 +15,8 @@ use Rattle.massif_sample.specs.Counted.{counts}
 use Rattle.massif_sample.specs.Gross.{gross}
 use Rattle.massif_sample.specs.HeapTotals.{gross_weight, heap_weight}
 use Rattle.massif_sample.specs.Places.{gross_at, heap_at, time_at, up_to}
-use Rattle.massif_sample.specs.Running.{AreFigures, CanCount, no_figures, passed, past_event, ticked, time_after, time_passed, with_alloc, with_event, with_free}
+use Rattle.massif_sample.specs.Running.{AreFigures, CanCount, no_figures, passed, past_event, ticked, time_after}
+use Rattle.massif_sample.specs.Running.{time_passed, with_alloc, with_event, with_free}
 use Rattle.massif_sample.specs.Times.{clock, clock_value, moved_bytes, time_in, time_of}
 use Rattle.massif_sample.proofs.Costs.{was-true}
 use Rattle.massif_sample.proofs.UpTo.{count-more, count-tick, sum-now, up_to-all, up_to-tick}

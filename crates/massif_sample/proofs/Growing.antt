@@ -1,5 +1,6 @@
 -- A sampler whose tables grow: it stands for the same events, since what it keeps is of stacks that were there before.
-use Rattle.std.proofs.Common.{◌≡◌, ℕ, zero, suc, ◌+◌, ◌<◌, ◌≤◌, List, [], ◌∷◌, ◌++◌, length, map, drop, get_or, eqb, take, inl, inr, Bool, true, false, cond, Option, Some, refl, ap, sym, subst, ◌∙◌, arith}
+use Rattle.std.proofs.Common.{◌≡◌, ℕ, zero, suc, ◌+◌, ◌<◌, ◌≤◌, List, [], ◌∷◌, ◌++◌, length, map, drop, get_or, eqb}
+use Rattle.std.proofs.Common.{take, inl, inr, Bool, true, false, cond, Option, Some, refl, ap, sym, subst, ◌∙◌, arith}
 use Rattle.std.proofs.lemmas.Bool.{cases_lt}
 use Rattle.std.specs.Prelude.{All, slice_get, sum_by}
 use Rattle.std.specs.List.{AllByRecursion, list_any, prefix_len, range_with_len}
@@ -36,8 +37,10 @@ use Rattle.massif_sample.specs.FunctionNames.{FunctionNames, ignores}
 use Rattle.massif_sample.specs.Places.{up_to}
 use Rattle.massif_sample.specs.SamplesState.{SamplesState}
 use Rattle.massif_sample.specs.Snapshots.{cost_at}
-use Rattle.massif_sample.specs.StandsFor.{AreCostsAt, AreFronts, AreOfStacks, IsOfStack, IsSnapshot, StandsFor, WhereTree}
-use Rattle.massif_sample.proofs.Agreeing.{Agree, AgreeAt, figures-same, gross_at-same, heap_at-same, offers-same, time_at-same}
+use Rattle.massif_sample.specs.StandsFor.{AreCostsAt, AreFronts, AreOfStacks, IsOfStack, IsSnapshot, StandsFor}
+use Rattle.massif_sample.specs.StandsFor.{WhereTree}
+use Rattle.massif_sample.proofs.Agreeing.{Agree, AgreeAt, figures-same, gross_at-same, heap_at-same, offers-same}
+use Rattle.massif_sample.proofs.Agreeing.{time_at-same}
 use Rattle.massif_sample.proofs.Costs.{map-same}
 
 -- tests that agree on all elements

@@ -1,6 +1,7 @@
 -- A kept snapshot shows the live bytes of its place, the gross bytes less these, and, where it is
 -- detailed or the peak, the tree of what each stack that isn't ignored has live there.
-use Rattle.std.specs.Prelude.{All, Contains, ◌≡◌, ℕ, ◌+◌, ◌-◌, Bool, true, false, List, [], length, map, Some, slice_get, if◌then◌else◌}
+use Rattle.std.specs.Prelude.{All, Contains, ◌≡◌, ℕ, ◌+◌, ◌-◌, Bool, true, false, List, [], length, map, Some}
+use Rattle.std.specs.Prelude.{slice_get, if◌then◌else◌}
 use Rattle.std.specs.List.{range_with_len}
 use Rattle.cost_tree.specs.Costed.{costed}
 use Rattle.ht_trace.specs.TableState.{TableState}

@@ -1,5 +1,6 @@
 -- Stacks that cost nothing, behind others: they change no tree.
-use Rattle.std.proofs.Common.{◌≡◌, ℕ, zero, suc, ◌+◌, ◌<◌, ◌≤◌, List, [], ◌∷◌, ◌++◌, length, map, take, eqb, Bool, true, false, cond, refl, ap, sym, ◌∙◌, inl, inr, arith, append-nil, length-append}
+use Rattle.std.proofs.Common.{◌≡◌, ℕ, zero, suc, ◌+◌, ◌<◌, ◌≤◌, List, [], ◌∷◌, ◌++◌, length, map, take, eqb, Bool, true}
+use Rattle.std.proofs.Common.{false, cond, refl, ap, sym, ◌∙◌, inl, inr, arith, append-nil, length-append}
 use Rattle.std.specs.Prelude.{◌&&◌, filter, not, nat_lt, sum_by}
 use Rattle.std.specs.List.{AllByRecursion, flat_map, position_or_len, range_with_len}
 use Rattle.std.proofs.Math.Path.{fun_ext}
@@ -9,7 +10,8 @@ use Rattle.std.proofs.lemmas.List.Sums.{prefix_len-le-length, sum_by-append, sum
 use Rattle.std.proofs.lemmas.Bool.Decides.{eqb_tells, nat_tests}
 use Rattle.cost_tree.specs.declared.scale.Scale.{Scale}
 use Rattle.cost_tree.specs.Costed.{Costed}
-use Rattle.cost_tree.specs.CostLines.{FrontLine, a_front, gathered, cost_lines, cost_of, front_lines, gathered_lines, is_small, kept_fronts, small_fronts}
+use Rattle.cost_tree.specs.CostLines.{FrontLine, a_front, gathered, cost_lines, cost_of, front_lines, gathered_lines}
+use Rattle.cost_tree.specs.CostLines.{is_small, kept_fronts, small_fronts}
 use Rattle.cost_tree.specs.Inclusive.{has_front, inclusive, least}
 use Rattle.cost_tree.specs.NextFronts.{longer_front, next_fronts, opens, texts_at}
 use Rattle.cost_tree.specs.Order.{by_cost}

@@ -1,5 +1,6 @@
 -- Texts of one line, as labels are.
-use Rattle.std.proofs.Common.{◌≡◌, ◌≢◌, ℕ, zero, suc, ◌+◌, ◌-◌, ◌/◌, ◌%◌, ◌==◌, eqb, Bool, true, false, cond, List, [], ◌∷◌, ◌++◌, Option, None, Some, refl, arith}
+use Rattle.std.proofs.Common.{◌≡◌, ◌≢◌, ℕ, zero, suc, ◌+◌, ◌-◌, ◌/◌, ◌%◌, ◌==◌, eqb, Bool, true, false, cond, List, []}
+use Rattle.std.proofs.Common.{◌∷◌, ◌++◌, Option, None, Some, refl, arith}
 use Rattle.std.specs.Prelude.{All, codes, decimal, nat_lt, slice_get, unwrap_or}
 use Rattle.std.specs.Fmt.{digit_glyph, digits, digits_onto}
 use Rattle.std.proofs.lemmas.Bool.{cond_both, eqb-false, false≢true}

@@ -1,14 +1,17 @@
 -- Lemmas on what is left of a tree.
-use Rattle.std.proofs.Common.{◌≡◌, ℕ, zero, suc, ◌+◌, ◌<◌, ◌≤◌, Bool, true, false, cond, eqb, List, [], ◌∷◌, ◌++◌, length, take, reverse, Some, refl, sym, ap, ◌∙◌, subst, arith, append_assoc}
+use Rattle.std.proofs.Common.{◌≡◌, ℕ, zero, suc, ◌+◌, ◌<◌, ◌≤◌, Bool, true, false, cond, eqb, List, [], ◌∷◌, ◌++◌}
+use Rattle.std.proofs.Common.{length, take, reverse, Some, refl, sym, ap, ◌∙◌, subst, arith, append_assoc}
 use Rattle.std.specs.Prelude.{All, codes, slice_get}
 use Rattle.std.proofs.lemmas.Bool.Decides.{nat_tests}
-use Rattle.std.proofs.lemmas.List.{append-nil, length-append, length-take, reverse-append, reverse-reverse, take_all, take-append-le}
+use Rattle.std.proofs.lemmas.List.{append-nil, length-append, length-take, reverse-append, reverse-reverse, take_all}
+use Rattle.std.proofs.lemmas.List.{take-append-le}
 use Rattle.std.proofs.lemmas.List.Elements.{All-append, All-cons, All-nil}
 use Rattle.massif_file.specs.TreeLine.{TreeLine}
 use Rattle.massif_file.specs.Trees.{Trees, no_tree, a_tree}
 use Rattle.ms_print.specs.declared.children.Pending.{Pending}
 use Rattle.ms_print.specs.declared.entry.Scale.{Scale}
-use Rattle.ms_print.specs.Pendings.{AreNested, AreRoots, IsHeld, bar_before, blank_below, entry_bytes, entry_children, entry_label, left_text, pending_below, pending_line}
+use Rattle.ms_print.specs.Pendings.{AreNested, AreRoots, IsHeld, bar_before, blank_below, entry_bytes, entry_children}
+use Rattle.ms_print.specs.Pendings.{entry_label, left_text, pending_below, pending_line}
 use Rattle.ms_print.specs.Ends.{children_at}
 use Rattle.ms_print.specs.Entries.{entry_text}
 use Rattle.ms_print.specs.Shown.{shown}

@@ -1,5 +1,6 @@
 -- How the bar of a column goes on with one snapshot more, for private clauses.
-use Rattle.std.specs.Prelude.{◌≡◌, ℕ, ◌+◌, ◌<◌, ◌≤◌, nat_lt, if◌then◌else◌, List, length, slice_index_or, Option, Some, None}
+use Rattle.std.specs.Prelude.{◌≡◌, ℕ, ◌+◌, ◌<◌, ◌≤◌, nat_lt, if◌then◌else◌, List, length, slice_index_or, Option, Some}
+use Rattle.std.specs.Prelude.{None}
 use Rattle.massif_file.specs.declared.profile.HeapTree.{HeapTree}
 use Rattle.massif_file.specs.declared.profile.HeapTree.TheVariants.{Empty, Detailed, Peak}
 use Rattle.massif_file.specs.declared.profile.Snap.{Snap}

@@ -1,6 +1,7 @@
 -- Numbers as a graph labels them: in the greatest unit that isn't above them. A label is the number
 -- in the greatest unit that isn't above it, in five bytes where it has a fraction.
-use Rattle.std.specs.Prelude.{ℕ, zero, suc, ◌+◌, ◌-◌, ◌*◌, ◌/◌, ◌%◌, ◌^◌, nat_eq, nat_le, if◌then◌else◌, List, [], ◌∷◌, ◌++◌, codes, decimal, length, take, slice_index, slice_index_or}
+use Rattle.std.specs.Prelude.{ℕ, zero, suc, ◌+◌, ◌-◌, ◌*◌, ◌/◌, ◌%◌, ◌^◌, nat_eq, nat_le, if◌then◌else◌, List, [], ◌∷◌}
+use Rattle.std.specs.Prelude.{◌++◌, codes, decimal, length, take, slice_index, slice_index_or}
 use Rattle.massif_file.specs.declared.profile.TimeUnit.{TimeUnit}
 use Rattle.massif_file.specs.declared.profile.TimeUnit.TheVariants.{Instructions, Milliseconds, Bytes, Events}
 

@@ -1,5 +1,6 @@
 -- Following lines is following each recording that begins with them.
-use Rattle.std.proofs.Common.{◌≡◌, ◌≢◌, ℕ, ◌^◌, ◌<◌, ◌≤◌, Bool, true, false, cond, List, [], ◌∷◌, ◌++◌, length, drop, Option, None, Some, refl, sym, ap, ◌∙◌, subst, arith, append_assoc, append-nil}
+use Rattle.std.proofs.Common.{◌≡◌, ◌≢◌, ℕ, ◌^◌, ◌<◌, ◌≤◌, Bool, true, false, cond, List, [], ◌∷◌, ◌++◌, length, drop}
+use Rattle.std.proofs.Common.{Option, None, Some, refl, sym, ap, ◌∙◌, subst, arith, append_assoc, append-nil}
 use Rattle.std.specs.Prelude.{All, decimal, nat_lt, option_map, slice_get}
 use Rattle.std.proofs.lemmas.Bool.Decides.{nat_tests}
 use Rattle.std.proofs.lemmas.List.Elements.{All-head, All-tail}
@@ -16,9 +17,11 @@ use Rattle.record_book.specs.Orders.{Continues, IsUnder}
 use Rattle.record_book.specs.RecordedTrace.{last_thread, recorded}
 use Rattle.record_book.specs.Spelled.{behind}
 use Rattle.record_book.proofs.Laws.{none-at, text-append, there, times-append}
-use Rattle.order_check.specs.Following.{Following, added, at_line, at_place, behind_line, followed, last_entry, thread_for, turn_begun, unfollowed, with_line, with_lines}
+use Rattle.order_check.specs.Following.{Following, added, at_line, at_place, behind_line, followed, last_entry}
+use Rattle.order_check.specs.Following.{thread_for, turn_begun, unfollowed, with_line, with_lines}
 use Rattle.order_check.specs.Spelling.{IsSpelling}
-use Rattle.order_check.proofs.LineTexts.{behind-front, ends-too, front-behind, line-within, nothing-more, same-first, text-push}
+use Rattle.order_check.proofs.LineTexts.{behind-front, ends-too, front-behind, line-within, nothing-more, same-first}
+use Rattle.order_check.proofs.LineTexts.{text-push}
 use Rattle.order_check.proofs.NextTurn.{goes-on, stepped-under, under-none}
 use Rattle.order_check.proofs.RecordedLines.{CallsFor, ends-recorded, grows, last-thread, push-calls, push-text}
 

@@ -1,5 +1,6 @@
 -- What an entry more adds to a recording, and with which line that begins.
-use Rattle.std.proofs.Common.{◌≡◌, ℕ, ◌-◌, ◌<◌, ◌≤◌, ◌==◌, Bool, true, false, cond, List, [], ◌∷◌, ◌++◌, length, Option, None, Some, refl, sym, ap, ◌∙◌, subst, arith, append_assoc, append-nil, length-append}
+use Rattle.std.proofs.Common.{◌≡◌, ℕ, ◌-◌, ◌<◌, ◌≤◌, ◌==◌, Bool, true, false, cond, List, [], ◌∷◌, ◌++◌, length, Option}
+use Rattle.std.proofs.Common.{None, Some, refl, sym, ap, ◌∙◌, subst, arith, append_assoc, append-nil, length-append}
 use Rattle.std.specs.Prelude.{codes, decimal, slice_get}
 use Rattle.std.specs.Option.{option_or}
 use Rattle.std.proofs.lemmas.Bool.Decides.{nat_tests}
@@ -14,9 +15,11 @@ use Rattle.record_scripts.specs.Turns.{Turn, frees}
 use Rattle.record_book.specs.Actions.{Action, actions, events_at, times, with_event}
 use Rattle.record_book.specs.HeapPlaces.{Place, address_of, class_of, next_address, places_after, released}
 use Rattle.record_book.specs.NodeNumbers.{number_in, stacks_after, with_suffixes}
-use Rattle.record_book.specs.RecordedTrace.{event_text, last_thread, line_of, node_text, nodes_text, opening, recorded, switch_text, thread_line, trace_text}
+use Rattle.record_book.specs.RecordedTrace.{event_text, last_thread, line_of, node_text, nodes_text, opening, recorded}
+use Rattle.record_book.specs.RecordedTrace.{switch_text, thread_line, trace_text}
 use Rattle.record_book.specs.Spelled.{AreQuiet, named}
-use Rattle.record_book.proofs.Laws.{actions-none, actions-push, kind-text, there, thread-named, thread-text, times-append, times-own, times-reverse, unnamed}
+use Rattle.record_book.proofs.Laws.{actions-none, actions-push, kind-text, there, thread-named, thread-text}
+use Rattle.record_book.proofs.Laws.{times-append, times-own, times-reverse, unnamed}
 use Rattle.order_check.specs.Following.{last_entry}
 use Rattle.order_check.proofs.LineTexts.{last-split}
 

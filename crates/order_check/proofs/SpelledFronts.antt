@@ -1,5 +1,6 @@
 -- The few orders of which one begins with lines: what the lines spell, and what the turn that they have begun has more.
-use Rattle.std.proofs.Common.{◌≡◌, inl, inr, ℕ, Bool, true, false, cond, List, [], ◌∷◌, ◌++◌, length, Option, None, Some, refl, sym, ap, ◌∙◌, subst, append_assoc, append-nil}
+use Rattle.std.proofs.Common.{◌≡◌, inl, inr, ℕ, Bool, true, false, cond, List, [], ◌∷◌, ◌++◌, length, Option, None}
+use Rattle.std.proofs.Common.{Some, refl, sym, ap, ◌∙◌, subst, append_assoc, append-nil}
 use Rattle.std.specs.Prelude.{All, nat_lt, option_map, slice_get, unwrap_or}
 use Rattle.std.proofs.lemmas.List.Elements.{All-append, All-cons, All-head, All-nil, All-tail}
 use Rattle.std.proofs.lemmas.List.{append_cancel_left}
@@ -14,7 +15,8 @@ use Rattle.record_book.specs.Orders.{IsUnder}
 use Rattle.record_book.specs.Spelled.{behind, is_event, named, spelled_by}
 use Rattle.record_book.proofs.Laws.{spelled-order}
 use Rattle.order_check.specs.FewOrders.{AreFew, BeginsAsSpelled}
-use Rattle.order_check.specs.Following.{Following, added, at_line, at_place, behind_line, followed, thread_for, turn_begun, unfollowed, with_line, with_lines}
+use Rattle.order_check.specs.Following.{Following, added, at_line, at_place, behind_line, followed, thread_for}
+use Rattle.order_check.specs.Following.{turn_begun, unfollowed, with_line, with_lines}
 use Rattle.order_check.specs.Fronts.{Begins, IsFront}
 use Rattle.order_check.specs.Spelling.{IsSpelling}
 use Rattle.order_check.proofs.FollowLemmas.{Follows, Outcome, follow-all, follow-line, follows-none}

@@ -1,5 +1,7 @@
 -- What the code does with a line, and how lines are followed.
-use Rattle.std.proofs.Common.{◌≡◌, ℕ, zero, suc, ◌+◌, ◌≤◌, ◌==◌, ◌&&◌, Bool, true, false, cond, eqb, List, [], ◌∷◌, ◌++◌, length, take, drop, Option, None, Some, Result, Ok, Err, refl, sym, ap, ap₂, ◌∙◌, subst, arith}
+use Rattle.std.proofs.Common.{◌≡◌, ℕ, zero, suc, ◌+◌, ◌≤◌, ◌==◌, ◌&&◌, Bool, true, false, cond, eqb, List, [], ◌∷◌}
+use Rattle.std.proofs.Common.{◌++◌, length, take, drop, Option, None, Some, Result, Ok, Err, refl, sym, ap, ap₂, ◌∙◌}
+use Rattle.std.proofs.Common.{subst, arith}
 use Rattle.std.specs.Prelude.{OnOk, codes, is_some}
 use Rattle.std.specs.Borrow.{Bor}
 use Rattle.std.specs.Cmp.Lexicographic.{pointwise}
@@ -13,7 +15,8 @@ use Rattle.record_book.specs.BookState.{stepped}
 use Rattle.record_book.specs.Spelled.{behind, named, number_of}
 use Rattle.order_check.specs.declared.verdict.LineRefusal.{LineRefusal}
 use Rattle.order_check.specs.CheckState.{CheckState, HasTaken, following_of}
-use Rattle.order_check.specs.Following.{Following, are_done, events_at_end, followed, is_empty, is_front, whole_events, with_line}
+use Rattle.order_check.specs.Following.{Following, are_done, events_at_end, followed, is_empty, is_front, whole_events}
+use Rattle.order_check.specs.Following.{with_line}
 use Rattle.order_check.proofs.FollowLemmas.{followed-push}
 use Rattle.order_check.proofs.LineTexts.{behind-front, front-behind}
 

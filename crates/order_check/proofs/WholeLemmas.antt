@@ -1,5 +1,7 @@
 -- Lines that are all of a recording, and lines with which one begins.
-use Rattle.std.proofs.Common.{◌≡◌, ◌≢◌, ℕ, zero, suc, ◌+◌, ◌<◌, ◌≤◌, ◌==◌, ◌&&◌, Bool, true, false, cond, List, [], ◌∷◌, ◌++◌, length, Option, None, Some, refl, sym, ap, ap₂, ◌∙◌, subst, arith, append_assoc, append-nil}
+use Rattle.std.proofs.Common.{◌≡◌, ◌≢◌, ℕ, zero, suc, ◌+◌, ◌<◌, ◌≤◌, ◌==◌, ◌&&◌, Bool, true, false, cond, List, [], ◌∷◌}
+use Rattle.std.proofs.Common.{◌++◌, length, Option, None, Some, refl, sym, ap, ap₂, ◌∙◌, subst, arith, append_assoc}
+use Rattle.std.proofs.Common.{append-nil}
 use Rattle.std.specs.Prelude.{All, is_some, nat_lt}
 use Rattle.std.proofs.lemmas.Bool.Decides.{nat_tests}
 use Rattle.std.proofs.lemmas.List.Elements.{All-cons, All-head, All-nil, All-tail}
@@ -15,7 +17,8 @@ use Rattle.record_book.specs.Orders.{Continues, IsInterleaving, IsUnder}
 use Rattle.record_book.specs.RecordedTrace.{recorded}
 use Rattle.record_book.specs.Spelled.{spelled}
 use Rattle.record_book.proofs.Laws.{none-at, spelled-order, text-append}
-use Rattle.order_check.specs.Following.{Following, added, are_done, events_at_end, followed, is_empty, is_front, whole_events}
+use Rattle.order_check.specs.Following.{Following, added, are_done, events_at_end, followed, is_empty, is_front}
+use Rattle.order_check.specs.Following.{whole_events}
 use Rattle.order_check.specs.Fronts.{Begins, IsFront, IsRecording}
 use Rattle.order_check.specs.Spelling.{IsSpelling}
 use Rattle.order_check.proofs.FollowLemmas.{Follows, HasText, Outcome, follow-all, turn-calls, turn-text}

@@ -1,7 +1,8 @@
 -- How the lines of a trace are followed, one after another, by the recordings that begin so. How
 -- lines are followed: a line that names a thread calls for that thread's next turn, any other for
 -- that of the thread before; what the turn adds to the recording has to come, line by line.
-use Rattle.std.specs.Prelude.{ℕ, ◌+◌, ◌-◌, Bool, true, false, ◌==◌, ◌&&◌, if◌then◌else◌, nat_lt, List, [], ◌∷◌, ◌++◌, length, drop, slice_get, is_some, option_map, Option, None, Some}
+use Rattle.std.specs.Prelude.{ℕ, ◌+◌, ◌-◌, Bool, true, false, ◌==◌, ◌&&◌, if◌then◌else◌, nat_lt, List, [], ◌∷◌, ◌++◌}
+use Rattle.std.specs.Prelude.{length, drop, slice_get, is_some, option_map, Option, None, Some}
 use Rattle.std.specs.Option.{option_or}
 use Rattle.record_scripts.specs.Events.{events_of}
 use Rattle.record_scripts.specs.Job.{Job}

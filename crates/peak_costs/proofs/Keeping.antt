@@ -1,32 +1,6 @@
 -- How the fields of peaks keep what they promise.
-use Rattle.std.proofs.Common.{
-  ◌≡◌,
-  ◌≢◌,
-  ℕ,
-  ◌+◌,
-  ◌<◌,
-  ◌≤◌,
-  List,
-  [],
-  ◌∷◌,
-  ◌++◌,
-  length,
-  map,
-  ◌⊎◌,
-  Bool,
-  cond,
-  refl,
-  inl,
-  inr,
-  sym,
-  ap,
-  subst,
-  ◌∙◌,
-  arith,
-  add-zero,
-  zero,
-  suc,
-}
+use Rattle.std.proofs.Common.{◌≡◌, ◌≢◌, ℕ, ◌+◌, ◌<◌, ◌≤◌, List, [], ◌∷◌, ◌++◌, length, map, ◌⊎◌, Bool, cond, refl, inl}
+use Rattle.std.proofs.Common.{inr, sym, ap, subst, ◌∙◌, arith, add-zero, zero, suc}
 use Rattle.std.specs.Prelude.{slice_index, slice_index_or, sum, IsTrue}
 use Rattle.std.proofs.lemmas.Bool.{false≢true}
 use Rattle.std.proofs.lemmas.Bool.Decides.{eqb_tells, leb_tells}
@@ -47,19 +21,8 @@ use Rattle.peak_costs.specs.Mark.{first_mark, raised}
 use Rattle.peak_costs.specs.Peak.{IsIn}
 use Rattle.peak_costs.specs.PeakState.{IsSound, PeakState}
 use Rattle.peak_costs.specs.Saved.{saved_after, shares_of, stamps_after}
-use Rattle.peak_costs.proofs.Shares.{
-  saved-length,
-  share-saved,
-  shares-kept_at,
-  shares-length,
-  shares-live_at,
-  shares-more,
-  shares-raised,
-  shares-same,
-  stamps-length,
-  stamps-others,
-  stamps-own,
-}
+use Rattle.peak_costs.proofs.Shares.{saved-length, share-saved, shares-kept_at, shares-length, shares-live_at}
+use Rattle.peak_costs.proofs.Shares.{shares-more, shares-raised, shares-same, stamps-length, stamps-others, stamps-own}
 
 -- what an event leaves of a ledger as it was, beside one stack
 pub record Moved (old new : LedgerState) (stack : ℕ) : Type 0 where

@@ -1,25 +1,6 @@
 -- What the crates above may cite: the greatest of some numbers, and the first place at which it stands.
-use Rattle.std.proofs.Common.{
-  ◌≡◌,
-  ◌≢◌,
-  ℕ,
-  ◌+◌,
-  ◌<◌,
-  ◌≤◌,
-  ◌==◌,
-  zero,
-  suc,
-  true,
-  false,
-  map,
-  refl,
-  ap,
-  ◌∙◌,
-  sym,
-  subst,
-  arith,
-  eq-eqb,
-}
+use Rattle.std.proofs.Common.{◌≡◌, ◌≢◌, ℕ, ◌+◌, ◌<◌, ◌≤◌, ◌==◌, zero, suc, true, false, map, refl, ap, ◌∙◌, sym, subst}
+use Rattle.std.proofs.Common.{arith, eq-eqb}
 use Rattle.std.proofs.lemmas.Bool.{ne_eqb}
 use Rattle.std.specs.List.{position_or_len, range_with_len}
 use Rattle.peak_costs.specs.FirstGreatest.{first_greatest, greatest}

@@ -1,32 +1,6 @@
 -- The peak of a list of events with one more.
-use Rattle.std.proofs.Common.{
-  append-nil,
-  add-zero,
-  zero,
-  suc,
-  ◌≡◌,
-  ℕ,
-  ◌+◌,
-  ◌<◌,
-  ◌≤◌,
-  List,
-  [],
-  ◌∷◌,
-  ◌++◌,
-  length,
-  take,
-  Bool,
-  true,
-  cond,
-  refl,
-  inl,
-  inr,
-  sym,
-  ap,
-  subst,
-  ◌∙◌,
-  arith,
-}
+use Rattle.std.proofs.Common.{append-nil, add-zero, zero, suc, ◌≡◌, ℕ, ◌+◌, ◌<◌, ◌≤◌, List, [], ◌∷◌, ◌++◌, length, take}
+use Rattle.std.proofs.Common.{Bool, true, cond, refl, inl, inr, sym, ap, subst, ◌∙◌, arith}
 use Rattle.std.specs.Prelude.{slice_index, sum_by}
 use Rattle.std.proofs.lemmas.Bool.{cases_lt}
 use Rattle.std.proofs.lemmas.List.{take-append-le, take_all}
@@ -37,18 +11,8 @@ use Rattle.live_ledger.specs.declared.event.Event.TheVariants.{Alloc, Free, Tick
 use Rattle.live_ledger.specs.declared.figures.Figures.{Figures}
 use Rattle.live_ledger.specs.Changes.{Changes}
 use Rattle.live_ledger.specs.Events.{counted, event_count, is_counted}
-use Rattle.live_ledger.specs.InStack.{
-  alloc_size_in,
-  allocated_in,
-  blocks_in,
-  calls_in,
-  free_size_in,
-  freed_in,
-  frees_in,
-  is_alloc_in,
-  is_free_in,
-  live_in,
-}
+use Rattle.live_ledger.specs.InStack.{alloc_size_in, allocated_in, blocks_in, calls_in, free_size_in, freed_in}
+use Rattle.live_ledger.specs.InStack.{frees_in, is_alloc_in, is_free_in, live_in}
 use Rattle.live_ledger.specs.LedgerState.{IsHeld, LedgerState, figures_at, no_figures}
 use Rattle.live_ledger.specs.LiveBytes.{alloc_size, allocated_bytes, free_size, freed_bytes, live_bytes}
 use Rattle.live_ledger.specs.Sound as ledger_sound
@@ -62,21 +26,8 @@ use Rattle.peak_costs.specs.Peak.{HasPeak, IsIn, IsPeak, StandsFor, first_events
 use Rattle.peak_costs.specs.PeakState.{PeakState, with_stack}
 use Rattle.peak_costs.specs.Saved.{saved_after, shares_of, stamps_after}
 use Rattle.peak_costs.proofs.Shares.{share-same, shares-same}
-use Rattle.peak_costs.proofs.Keeping.{
-  HasStack,
-  Longer,
-  Moved,
-  figure-at,
-  kept-saved,
-  moved-by,
-  raised-cases,
-  shares-infos,
-  shares-stack,
-  stack-in,
-  shares-kept,
-  shares-new,
-  shares-new_peak,
-}
+use Rattle.peak_costs.proofs.Keeping.{HasStack, Longer, Moved, figure-at, kept-saved, moved-by, raised-cases}
+use Rattle.peak_costs.proofs.Keeping.{shares-infos, shares-stack, stack-in, shares-kept, shares-new, shares-new_peak}
 
 -- clock values add nothing to a sum in which they have nothing
 sum-counted : (f : Event → ℕ) (events : List Event) → ((ms : ℕ) → f (Tick ms) ≡ 0)

@@ -3,7 +3,8 @@ use Rattle.std.proofs.Common.{◌≡◌, Result, Err, ap}
 use Rattle.command_frame.specs.Report.{Verdict}
 use Rattle.command_frame.specs.Taker.{Refuses}
 use Rattle.dhat_json.specs.declared.fault.DhatFault.{DhatFault}
-use Rattle.dhat_json.specs.declared.fault.DhatFault.TheVariants.{NotJson, WrongFileVersion, MissingKey, WrongKind, FrameOutOfTable, TooMany, NoMemory}
+use Rattle.dhat_json.specs.declared.fault.DhatFault.TheVariants.{NotJson, WrongFileVersion, MissingKey, WrongKind}
+use Rattle.dhat_json.specs.declared.fault.DhatFault.TheVariants.{FrameOutOfTable, TooMany, NoMemory}
 use Rattle.dhat_json.specs.declared.profile.Dhat.{Dhat}
 use Rattle.dhat_json.specs.Reads.{UnlessNoMemory}
 use Rattle.profile_reports.specs.DhatFileReport.{document_refusal, profile_verdict}

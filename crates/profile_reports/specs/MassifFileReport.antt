@@ -1,7 +1,8 @@
 -- Of a Massif file, what a command makes of the profile that the lines are is written, or their
 -- first fault, or that of the profile, is told. What lines are is the function `profile_of`, to
 -- which the law `massif_profiles` ties the relations `is_profile` and `profile_fault`.
-use Rattle.std.specs.Prelude.{ℕ, ◌+◌, ◌==◌, if◌then◌else◌, List, [], ◌∷◌, ◌++◌, length, Option, Some, None, Result, Ok, Err}
+use Rattle.std.specs.Prelude.{ℕ, ◌+◌, ◌==◌, if◌then◌else◌, List, [], ◌∷◌, ◌++◌, length, Option, Some, None, Result, Ok}
+use Rattle.std.specs.Prelude.{Err}
 use Rattle.massif_file.specs.declared.fault.ProfileFault.{ProfileFault}
 use Rattle.massif_file.specs.declared.profile.Profile.{Profile}
 use Rattle.massif_file.specs.ProfileOf.{profile_of}

@@ -1,5 +1,7 @@
 -- Figures of an order, and those of the threads alone.
-use Rattle.std.proofs.Common.{◌≡◌, ℕ, zero, suc, ◌+◌, ◌<◌, ◌≤◌, ◌==◌, ◌⊎◌, inl, inr, Bool, true, false, cond, List, [], ◌∷◌, ◌++◌, length, reverse, take, Option, None, Some, refl, sym, ap, ap₂, ◌∙◌, subst, arith}
+use Rattle.std.proofs.Common.{◌≡◌, ℕ, zero, suc, ◌+◌, ◌<◌, ◌≤◌, ◌==◌, ◌⊎◌, inl, inr, Bool, true, false, cond, List, []}
+use Rattle.std.proofs.Common.{◌∷◌, ◌++◌, length, reverse, take, Option, None, Some, refl, sym, ap, ap₂, ◌∙◌, subst}
+use Rattle.std.proofs.Common.{arith}
 use Rattle.std.specs.Prelude.{slice_get}
 use Rattle.std.specs.List.{AllByRecursion}
 use Rattle.std.proofs.lemmas.Bool.{cases_lt}
@@ -11,7 +13,8 @@ use Rattle.std.proofs.Math.Seq.{take-suc}
 use Rattle.record_scripts.specs.Events.{Event, allocation, free, event_count, events_of}
 use Rattle.record_scripts.specs.Turns.{Turn}
 use Rattle.record_book.specs.Actions.{Action, actions, actions_back, events_at, times, with_event}
-use Rattle.record_book.specs.Figures.{Held, alone, bytes_held, every, greatest_below, has_id, held_after, held_with, live_bytes, own_peak, peak, sum_below, weigh, weigh_events, with_events, without}
+use Rattle.record_book.specs.Figures.{Held, alone, bytes_held, every, greatest_below, has_id, held_after, held_with}
+use Rattle.record_book.specs.Figures.{live_bytes, own_peak, peak, sum_below, weigh, weigh_events, with_events, without}
 use Rattle.record_book.specs.Orders.{IsInterleaving}
 use Rattle.record_book.proofs.FinishLemmas.{none-at}
 use Rattle.record_book.proofs.OrderLemmas.{times-reverse}

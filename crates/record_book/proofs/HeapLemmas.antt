@@ -1,10 +1,12 @@
 -- What a free and an allocation change of places.
-use Rattle.std.proofs.Common.{◌≡◌, ℕ, ◌+◌, ◌<◌, ◌≤◌, ◌==◌, ◌&&◌, ◌||◌, Bool, true, false, cond, ◌⊎◌, inl, inr, List, [], ◌∷◌, Option, None, Some, refl, sym, ap, ap₂, ◌∙◌, subst, arith, true≢false}
+use Rattle.std.proofs.Common.{◌≡◌, ℕ, ◌+◌, ◌<◌, ◌≤◌, ◌==◌, ◌&&◌, ◌||◌, Bool, true, false, cond, ◌⊎◌, inl, inr, List, []}
+use Rattle.std.proofs.Common.{◌∷◌, Option, None, Some, refl, sym, ap, ap₂, ◌∙◌, subst, arith, true≢false}
 use Rattle.std.specs.Prelude.{min}
 use Rattle.std.proofs.lemmas.Bool.Decides.{nat_tests}
 use Rattle.std.proofs.lemmas.Option.{same_Some}
 use Rattle.record_book.specs.declared.live_blocks.LiveEntry.{LiveEntry}
-use Rattle.record_book.specs.HeapPlaces.{Block, Place, taken, empty, class_of, end_of, free_addresses, is_of, least, next_address, placed, placed_at, released}
+use Rattle.record_book.specs.HeapPlaces.{Block, Place, taken, empty, class_of, end_of, free_addresses, is_of, least}
+use Rattle.record_book.specs.HeapPlaces.{next_address, placed, placed_at, released}
 use Rattle.record_book.specs.HeapState.{AreOf, AreOnly, entry_in, is_free}
 
 -- whether a thread's ID is another's

@@ -1,5 +1,6 @@
 -- Texts without a line feed, and texts of lines.
-use Rattle.std.proofs.Common.{◌≡◌, ◌≢◌, ℕ, zero, suc, ◌+◌, ◌%◌, ◌/◌, Bool, true, false, cond, eqb, nat_lt, List, [], ◌∷◌, ◌++◌, refl, sym, arith, true≢false, ap, ◌∙◌, append_assoc}
+use Rattle.std.proofs.Common.{◌≡◌, ◌≢◌, ℕ, zero, suc, ◌+◌, ◌%◌, ◌/◌, Bool, true, false, cond, eqb, nat_lt, List, []}
+use Rattle.std.proofs.Common.{◌∷◌, ◌++◌, refl, sym, arith, true≢false, ap, ◌∙◌, append_assoc}
 use Rattle.std.specs.Fmt.{digits, digits_onto, digit_glyph}
 use Rattle.std.proofs.lemmas.Bool.Decides.{nat_tests}
 use Rattle.std.proofs.lemmas.List.Elements.{All-append, All-cons, All-nil}

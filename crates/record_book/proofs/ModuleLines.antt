@@ -1,8 +1,12 @@
 -- The lines of modules, which spell nothing.
-use Rattle.std.proofs.Common.{◌≡◌, ℕ, true, List, [], ◌∷◌, ◌++◌, refl, sym, ap, subst, ◌∙◌, arith, true≢false, append_assoc}
+use Rattle.std.proofs.Common.{◌≡◌, ℕ, true, List, [], ◌∷◌, ◌++◌, refl, sym, ap, subst, ◌∙◌, arith, true≢false}
+use Rattle.std.proofs.Common.{append_assoc}
 use Rattle.std.specs.Prelude.{codes}
 use Rattle.std.specs.List.{AllByRecursion}
-use Rattle.ht_lines.specs.Content.{Content, version_line, executable_line, command_line, system_line, string_line, clear_line, module_line, instruction_line, node_line, info_line, allocation_line, free_line, raw_allocation_line, raw_free_line, clock_line, resident_line, attached_line, suppression_line, comment_line, other_line}
+use Rattle.ht_lines.specs.Content.{Content, version_line, executable_line, command_line, system_line, string_line}
+use Rattle.ht_lines.specs.Content.{clear_line, module_line, instruction_line, node_line, info_line, allocation_line}
+use Rattle.ht_lines.specs.Content.{free_line, raw_allocation_line, raw_free_line, clock_line, resident_line}
+use Rattle.ht_lines.specs.Content.{attached_line, suppression_line, comment_line, other_line}
 use Rattle.ht_lines.specs.OneLine.{HasOneLineTexts}
 use Rattle.ht_lines.specs.Written.{spelled, written}
 use Rattle.record_scripts.specs.ModuleLine.{is_module}

@@ -1,11 +1,14 @@
 -- The next address of a class once a block is freed, and a heap after a free and an allocation.
-use Rattle.std.proofs.Common.{◌≡◌, ℕ, ◌+◌, ◌<◌, ◌≤◌, ◌==◌, ◌&&◌, Bool, true, false, cond, List, [], ◌∷◌, Option, None, Some, refl, sym, ap, ◌∙◌, arith}
+use Rattle.std.proofs.Common.{◌≡◌, ℕ, ◌+◌, ◌<◌, ◌≤◌, ◌==◌, ◌&&◌, Bool, true, false, cond, List, [], ◌∷◌, Option, None}
+use Rattle.std.proofs.Common.{Some, refl, sym, ap, ◌∙◌, arith}
 use Rattle.std.specs.Prelude.{IfNone, IfSome}
 use Rattle.std.proofs.lemmas.Bool.Decides.{nat_tests}
 use Rattle.record_book.specs.declared.live_blocks.LiveEntry.{LiveEntry}
-use Rattle.record_book.specs.HeapPlaces.{Place, taken, empty, address_of, class_of, end_of, is_of, next_address, placed, released}
+use Rattle.record_book.specs.HeapPlaces.{Place, taken, empty, address_of, class_of, end_of, is_of, next_address, placed}
+use Rattle.record_book.specs.HeapPlaces.{released}
 use Rattle.record_book.specs.HeapState.{AreOf, AreOnly, entry_in, is_free}
-use Rattle.record_book.proofs.HeapLemmas.{free-below, least-ge, least-le, least-none, of-kept, of-placed, of-released, same}
+use Rattle.record_book.proofs.HeapLemmas.{free-below, least-ge, least-le, least-none, of-kept, of-placed, of-released}
+use Rattle.record_book.proofs.HeapLemmas.{same}
 
 -- the address of a live block
 address-by : (b : Bool) (here rest class : ℕ) (older : Option LiveEntry) (entry : LiveEntry)

@@ -1,12 +1,15 @@
 -- Where live blocks lie: no two at one address, and a new one at none of theirs.
-use Rattle.std.proofs.Common.{◌≡◌, ◌≢◌, ℕ, ◌+◌, ◌<◌, ◌≤◌, ◌==◌, ◌&&◌, ◌||◌, Bool, true, false, cond, inl, inr, List, [], ◌∷◌, Option, None, Some, refl, sym, ap, ◌∙◌, arith, true≢false}
+use Rattle.std.proofs.Common.{◌≡◌, ◌≢◌, ℕ, ◌+◌, ◌<◌, ◌≤◌, ◌==◌, ◌&&◌, ◌||◌, Bool, true, false, cond, inl, inr, List, []}
+use Rattle.std.proofs.Common.{◌∷◌, Option, None, Some, refl, sym, ap, ◌∙◌, arith, true≢false}
 use Rattle.std.proofs.lemmas.Bool.Decides.{nat_tests}
 use Rattle.std.proofs.lemmas.Option.{same_Some}
 use Rattle.record_scripts.specs.Events.{Event, allocation, free}
 use Rattle.record_book.specs.declared.live_blocks.LiveEntry.{LiveEntry}
-use Rattle.record_book.specs.HeapPlaces.{Block, Place, taken, empty, address_of, class_of, end_of, free_addresses, is_of, least, next_address, placed, places_with, released}
+use Rattle.record_book.specs.HeapPlaces.{Block, Place, taken, empty, address_of, class_of, end_of, free_addresses}
+use Rattle.record_book.specs.HeapPlaces.{is_of, least, next_address, placed, places_with, released}
 use Rattle.record_book.specs.HeapState.{AreOf, AreOnly, entry_in, is_free}
-use Rattle.record_book.proofs.HeapLemmas.{end-released, entry-released, free-end, least-in, of-placed, of-same, only-released, same}
+use Rattle.record_book.proofs.HeapLemmas.{end-released, entry-released, free-end, least-in, of-placed, of-same}
+use Rattle.record_book.proofs.HeapLemmas.{only-released, same}
 use Rattle.record_book.proofs.HeldLemmas.{same-self}
 
 -- a live block lies before the end

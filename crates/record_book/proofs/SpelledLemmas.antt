@@ -1,5 +1,7 @@
 -- What the lines of a recording spell.
-use Rattle.std.proofs.Common.{◌≡◌, ◌≢◌, ℕ, zero, suc, ◌+◌, ◌^◌, ◌<◌, ◌≤◌, ◌==◌, ◌⊎◌, inl, inr, Bool, true, false, cond, List, [], ◌∷◌, ◌++◌, length, reverse, Option, None, Some, refl, sym, ap, ap₂, ◌∙◌, subst, arith, append_assoc, append-nil}
+use Rattle.std.proofs.Common.{◌≡◌, ◌≢◌, ℕ, zero, suc, ◌+◌, ◌^◌, ◌<◌, ◌≤◌, ◌==◌, ◌⊎◌, inl, inr, Bool, true, false, cond}
+use Rattle.std.proofs.Common.{List, [], ◌∷◌, ◌++◌, length, reverse, Option, None, Some, refl, sym, ap, ap₂, ◌∙◌, subst}
+use Rattle.std.proofs.Common.{arith, append_assoc, append-nil}
 use Rattle.std.specs.Prelude.{codes, decimal, slice_get, unwrap_or}
 use Rattle.std.specs.List.{AllByRecursion}
 use Rattle.std.proofs.lemmas.Bool.{cases_lt}
@@ -18,7 +20,8 @@ use Rattle.record_book.specs.Actions.{Action, actions, actions_back, events_at, 
 use Rattle.record_book.specs.HeapPlaces.{Place, address_of, class_of, next_address, places_after, released}
 use Rattle.record_book.specs.NodeNumbers.{number_in, stacks_after, with_suffixes}
 use Rattle.record_book.specs.Orders.{IsUnder}
-use Rattle.record_book.specs.RecordedTrace.{event_text, last_thread, line_of, node_text, nodes_text, opening, recorded, switch_text, thread_line, trace_text}
+use Rattle.record_book.specs.RecordedTrace.{event_text, last_thread, line_of, node_text, nodes_text, opening, recorded}
+use Rattle.record_book.specs.RecordedTrace.{switch_text, thread_line, trace_text}
 use Rattle.record_book.specs.Spelled.{AreQuiet, IsQuiet, behind, is_event, named, number_of, spelled, spelled_by}
 use Rattle.record_book.proofs.LineTexts.{both-text, digits-text, kind-text, literal-text}
 

@@ -1,5 +1,7 @@
 -- A recording with a turn more of a thread, of which a front of the trace may be let go.
-use Rattle.std.proofs.Common.{◌≡◌, ◌≢◌, ℕ, zero, suc, ◌+◌, ◌*◌, ◌^◌, ◌<◌, ◌≤◌, ◌==◌, Bool, true, false, List, [], ◌∷◌, ◌++◌, length, get_or, take, drop, reverse, Option, Some, refl, sym, ap, ap₂, ◌∙◌, subst, arith, append_assoc, append-nil, length-append}
+use Rattle.std.proofs.Common.{◌≡◌, ◌≢◌, ℕ, zero, suc, ◌+◌, ◌*◌, ◌^◌, ◌<◌, ◌≤◌, ◌==◌, Bool, true, false, List, [], ◌∷◌}
+use Rattle.std.proofs.Common.{◌++◌, length, get_or, take, drop, reverse, Option, Some, refl, sym, ap, ap₂, ◌∙◌, subst}
+use Rattle.std.proofs.Common.{arith, append_assoc, append-nil, length-append}
 use Rattle.std.specs.Prelude.{◌↔◌, IsTrue, is_some, replicate, slice_get, slice_set}
 use Rattle.std.specs.List.{AllByRecursion}
 use Rattle.std.proofs.lemmas.Bool.Decides.{nat_tests}
@@ -17,7 +19,8 @@ use Rattle.record_book.specs.declared.trace.Trace.{Trace}
 use Rattle.record_book.specs.Actions.{Action, actions, events_at, times}
 use Rattle.record_book.specs.BookState.{entries_of}
 use Rattle.record_book.specs.StreamState.{IsStream, done_at, done_count}
-use Rattle.record_book.specs.HeapPlaces.{AreApart, LiveBlock, Place, taken, empty, class_of, end_of, live_blocks, places_after}
+use Rattle.record_book.specs.HeapPlaces.{AreApart, LiveBlock, Place, taken, empty, class_of, end_of, live_blocks}
+use Rattle.record_book.specs.HeapPlaces.{places_after}
 use Rattle.record_book.specs.HeapState.{AreOnly, IsHeap, entry_in}
 use Rattle.record_book.specs.NodeNumbers.{stacks_after}
 use Rattle.record_book.specs.NodeState.{AreNumbered}
@@ -27,7 +30,9 @@ use Rattle.record_book.specs.TakenTurn.{IsFresh}
 use Rattle.record_book.specs.TraceState.{IsTrace, with_turn}
 use Rattle.record_book.proofs.DoneLemmas.{done-here, done-other, length-slice_set}
 use Rattle.record_book.proofs.LiveLemmas.{live-next, none-live}
-use Rattle.record_book.proofs.OrderLemmas.{actions-none, actions-turn, closed-turn, entries-length, events-more, events-within, paired-turn, some_events, times-append, times-other, times-own, times-within}
+use Rattle.record_book.proofs.OrderLemmas.{actions-none, actions-turn, closed-turn, entries-length, events-more}
+use Rattle.record_book.proofs.OrderLemmas.{events-within, paired-turn, some_events, times-append, times-other}
+use Rattle.record_book.proofs.OrderLemmas.{times-own, times-within}
 
 -- events of the turns of all threads
 count-set : (scripts : List (List Turn)) (done : List ℕ) (thread : ℕ) (turn : Turn) → length done ≡ length scripts

@@ -5,7 +5,9 @@ use Rattle.record_scripts.specs.Turns.{Turn}
 use Rattle.record_book.specs.declared.summary.Summary.{Summary}
 use Rattle.record_book.specs.declared.tally.Tally.{Tally}
 use Rattle.record_book.specs.Actions.{actions}
-use Rattle.record_book.specs.Figures.{Held, allocated, bytes_asked, bytes_held, calls, every, greatest_below, held_after, live_bytes, live_count, one_asked, one_held, own_peak, peak, sum_below, weigh, weigh_events}
+use Rattle.record_book.specs.Figures.{Held, allocated, bytes_asked, bytes_held, calls, every, greatest_below}
+use Rattle.record_book.specs.Figures.{held_after, live_bytes, live_count, one_asked, one_held, own_peak, peak}
+use Rattle.record_book.specs.Figures.{sum_below, weigh, weigh_events}
 use Rattle.record_book.specs.Orders.{IsInterleaving}
 use Rattle.record_book.specs.ScriptFigures.{HasScriptFigures}
 use Rattle.record_book.specs.SummaryText.{summary_of}

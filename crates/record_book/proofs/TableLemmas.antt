@@ -1,5 +1,6 @@
 -- Blocks that stand in a table, and others: one of the others is put in or taken out.
-use Rattle.std.proofs.Common.{◌≡◌, ℕ, Bool, true, false, cond, List, length, get_or, Option, None, refl, sym, ap, ap₂, ◌∙◌, arith}
+use Rattle.std.proofs.Common.{◌≡◌, ℕ, Bool, true, false, cond, List, length, get_or, Option, None, refl, sym, ap, ap₂}
+use Rattle.std.proofs.Common.{◌∙◌, arith}
 use Rattle.std.proofs.lemmas.Bool.Decides.{nat_tests}
 use Rattle.record_book.specs.declared.live_blocks.LiveEntry.{LiveEntry}
 use Rattle.record_book.specs.LiveBlocks.{found_in, is_low, place_of}

@@ -1,11 +1,13 @@
 -- Tallies with an event more.
-use Rattle.std.proofs.Common.{◌≡◌, ℕ, ◌+◌, ◌-◌, ◌≤◌, ◌==◌, ◌&&◌, Bool, true, false, cond, List, [], ◌∷◌, Option, None, Some, refl, sym, ap, ap₂, ◌∙◌, arith, true≢false}
+use Rattle.std.proofs.Common.{◌≡◌, ℕ, ◌+◌, ◌-◌, ◌≤◌, ◌==◌, ◌&&◌, Bool, true, false, cond, List, [], ◌∷◌, Option, None}
+use Rattle.std.proofs.Common.{Some, refl, sym, ap, ap₂, ◌∙◌, arith, true≢false}
 use Rattle.std.specs.Prelude.{Err, Ok, OnOk, Result, is_some, max, option_map, unwrap_or}
 use Rattle.std.proofs.lemmas.Bool.Decides.{nat_tests}
 use Rattle.record_scripts.specs.Events.{Event, allocation, free}
 use Rattle.record_book.specs.declared.tally.Tally.{Tally}
 use Rattle.record_book.specs.Actions.{Action}
-use Rattle.record_book.specs.Figures.{Held, allocated, bytes_held, calls, every, has_id, held_after, live_bytes, live_count, one_held, peak, weigh, without}
+use Rattle.record_book.specs.Figures.{Held, allocated, bytes_held, calls, every, has_id, held_after, live_bytes}
+use Rattle.record_book.specs.Figures.{live_count, one_held, peak, weigh, without}
 use Rattle.record_book.specs.TallyState.{IsTally, size_at, size_in}
 use Rattle.record_book.proofs.HeapLemmas.{same}
 use Rattle.record_book.proofs.HeldLemmas.{held-size, held-split, held_in, size-without, weight_of}

@@ -1,5 +1,7 @@
 -- Walks over an order, turn by turn, and over one script.
-use Rattle.std.proofs.Common.{◌≡◌, ◌≢◌, ℕ, zero, suc, ◌+◌, ◌<◌, ◌≤◌, ◌==◌, ◌⊎◌, inl, inr, Bool, true, false, List, [], ◌∷◌, ◌++◌, length, take, drop, reverse, Option, None, Some, refl, sym, ap, ◌∙◌, subst, arith, add-one, append_assoc, append-nil, length-append}
+use Rattle.std.proofs.Common.{◌≡◌, ◌≢◌, ℕ, zero, suc, ◌+◌, ◌<◌, ◌≤◌, ◌==◌, ◌⊎◌, inl, inr, Bool, true, false, List, []}
+use Rattle.std.proofs.Common.{◌∷◌, ◌++◌, length, take, drop, reverse, Option, None, Some, refl, sym, ap, ◌∙◌, subst}
+use Rattle.std.proofs.Common.{arith, add-one, append_assoc, append-nil, length-append}
 use Rattle.std.specs.Prelude.{slice_get, slice_index_or, slice_set}
 use Rattle.std.proofs.lemmas.Bool.{cases_lt}
 use Rattle.std.proofs.lemmas.Bool.Decides.{nat_tests}
@@ -16,7 +18,8 @@ use Rattle.record_book.specs.Orders.{ArePaired, IsUnder, awaited}
 use Rattle.record_book.specs.TraceState.{with_turn}
 use Rattle.record_book.proofs.DoneLemmas.{done-here, done-other}
 use Rattle.record_book.proofs.FinishLemmas.{none-at}
-use Rattle.record_book.proofs.OrderLemmas.{actions-push, actions-turn, all-taken, done-length, event-at, events-more, times-append, times-other, times-own, times-reverse}
+use Rattle.record_book.proofs.OrderLemmas.{actions-push, actions-turn, all-taken, done-length, event-at, events-more}
+use Rattle.record_book.proofs.OrderLemmas.{times-append, times-other, times-own, times-reverse}
 
 -- an order is that of so many turns of each thread
 abbrev pub AreTaken : List (List Turn) → List ℕ → List ℕ → Type 0

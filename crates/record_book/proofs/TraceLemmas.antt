@@ -1,5 +1,6 @@
 -- A trace with one turn more.
-use Rattle.std.proofs.Common.{◌≡◌, ℕ, ◌≤◌, ◌==◌, Bool, true, false, cond, List, [], ◌++◌, length, Option, Some, refl, sym, ap, ap₂, ◌∙◌, subst, arith, append_assoc}
+use Rattle.std.proofs.Common.{◌≡◌, ℕ, ◌≤◌, ◌==◌, Bool, true, false, cond, List, [], ◌++◌, length, Option, Some, refl}
+use Rattle.std.proofs.Common.{sym, ap, ap₂, ◌∙◌, subst, arith, append_assoc}
 use Rattle.std.specs.Prelude.{Result, Ok, Err, OnOk}
 use Rattle.std.proofs.lemmas.Bool.Decides.{nat_tests}
 use Rattle.ht_lines.specs.Content.{raw_allocation_line, raw_free_line}
@@ -14,7 +15,8 @@ use Rattle.record_book.specs.HeapPlaces.{Place, address_of, class_of, next_addre
 use Rattle.record_book.specs.HeapState.{IsHeap}
 use Rattle.record_book.specs.NodeNumbers.{number_in, stacks_after, with_suffixes}
 use Rattle.record_book.specs.NodeState.{ArePut}
-use Rattle.record_book.specs.RecordedTrace.{event_text, last_thread, line_of, nodes_text, switch_text, thread_line, trace_text}
+use Rattle.record_book.specs.RecordedTrace.{event_text, last_thread, line_of, nodes_text, switch_text, thread_line}
+use Rattle.record_book.specs.RecordedTrace.{trace_text}
 use Rattle.record_book.specs.TraceState.{HasTurn, IsTrace, with_turn}
 use Rattle.record_book.proofs.HeapLemmas.{released-twice}
 

@@ -1,6 +1,7 @@
 -- What a book stands for; the order with the next turn of a thread, and with several; what a book is
 -- once all turns of a thread, or of all threads, are taken.
-use Rattle.std.specs.Prelude.{◌≡◌, ℕ, zero, suc, ◌<◌, ◌≤◌, Bool, true, false, List, [], ◌∷◌, ◌++◌, length, nat_lt, slice_get, Option, None, Some, ◌≢◌}
+use Rattle.std.specs.Prelude.{◌≡◌, ℕ, zero, suc, ◌<◌, ◌≤◌, Bool, true, false, List, [], ◌∷◌, ◌++◌, length, nat_lt}
+use Rattle.std.specs.Prelude.{slice_get, Option, None, Some, ◌≢◌}
 use Rattle.record_scripts.specs.Events.{Event, allocation, free}
 use Rattle.record_scripts.specs.declared.script_line.ScriptLine.{ScriptLine}
 use Rattle.record_scripts.specs.Job.{IsSameWork, Job}

@@ -1,6 +1,7 @@
 -- What the heap of the code has: a live block's place by thread and ID, the free places, and the
 -- end; what a block that is put or freed changes of it.
-use Rattle.std.specs.Prelude.{◌≡◌, ℕ, ◌+◌, ◌^◌, ◌<◌, ◌≤◌, ◌==◌, ◌&&◌, ◌||◌, Bool, true, false, if◌then◌else◌, List, [], ◌∷◌, Option, None, Some, nat_eq, IfSome}
+use Rattle.std.specs.Prelude.{◌≡◌, ℕ, ◌+◌, ◌^◌, ◌<◌, ◌≤◌, ◌==◌, ◌&&◌, ◌||◌, Bool, true, false, if◌then◌else◌, List, []}
+use Rattle.std.specs.Prelude.{◌∷◌, Option, None, Some, nat_eq, IfSome}
 use Rattle.std.specs.BinaryHeap.{heap_items}
 use Rattle.std.specs.HashMap.{get}
 use Rattle.record_book.specs.declared.free_addresses.FreeAddresses.{FreeAddresses}
@@ -9,7 +10,8 @@ use Rattle.record_book.specs.declared.heap.Heap.{Heap}
 use Rattle.record_book.specs.declared.live_blocks.LiveEntry.{LiveEntry}
 use Rattle.record_book.specs.Addresses.{has_address}
 use Rattle.record_book.specs.LiveBlocks.{block_at}
-use Rattle.record_book.specs.HeapPlaces.{Place, taken, empty, address_of, class_of, end_of, is_of, next_address, placed, released}
+use Rattle.record_book.specs.HeapPlaces.{Place, taken, empty, address_of, class_of, end_of, is_of, next_address, placed}
+use Rattle.record_book.specs.HeapPlaces.{released}
 
 -- the address is among those of a class, of which there may be none
 abbrev pub is_among : Option FreeAddresses → ℕ → Bool

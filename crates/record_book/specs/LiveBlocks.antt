@@ -1,7 +1,8 @@
 -- Where live blocks lie, as the code keeps them. The live block of a thread's ID stands in a table,
 -- where the ID is below 1,024, or else among the others. A block that is put in or taken out is the
 -- only one that changes.
-use Rattle.std.specs.Prelude.{ℕ, ◌+◌, ◌*◌, ◌<◌, ◌==◌, ◌&&◌, Bool, if◌then◌else◌, List, length, get_or, nat_lt, Option, None, ◌≡◌, true}
+use Rattle.std.specs.Prelude.{ℕ, ◌+◌, ◌*◌, ◌<◌, ◌==◌, ◌&&◌, Bool, if◌then◌else◌, List, length, get_or, nat_lt, Option}
+use Rattle.std.specs.Prelude.{None, ◌≡◌, true}
 use Rattle.std.specs.HashMap.{get, spare}
 use Rattle.record_book.specs.declared.live_blocks.LiveBlocks.{LiveBlocks}
 use Rattle.record_book.specs.declared.live_blocks.LiveEntry.{LiveEntry}

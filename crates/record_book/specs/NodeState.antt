@@ -1,5 +1,6 @@
 -- The nodes of the code are the numbered stacks, one frame for each pointer.
-use Rattle.std.specs.Prelude.{◌≡◌, ◌≢◌, ℕ, ◌+◌, ◌-◌, ◌^◌, ◌<◌, ◌≤◌, ◌==◌, if◌then◌else◌, List, ◌∷◌, ◌++◌, length, Result, IfOk}
+use Rattle.std.specs.Prelude.{◌≡◌, ◌≢◌, ℕ, ◌+◌, ◌-◌, ◌^◌, ◌<◌, ◌≤◌, ◌==◌, if◌then◌else◌, List, ◌∷◌, ◌++◌, length}
+use Rattle.std.specs.Prelude.{Result, IfOk}
 use Rattle.stack_table.specs.AreNodes.{AreNodes}
 use Rattle.stack_table.specs.Continues.{Continues}
 use Rattle.stack_table.specs.Node.{Node}

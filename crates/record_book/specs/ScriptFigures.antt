@@ -5,7 +5,8 @@ use Rattle.std.specs.Prelude.{◌≡◌, ℕ, ◌≤◌, Bool, List, length}
 use Rattle.record_scripts.specs.Events.{event_count}
 use Rattle.record_scripts.specs.Turns.{Turn}
 use Rattle.record_book.specs.Actions.{actions}
-use Rattle.record_book.specs.Figures.{allocated, alone, calls, greatest_below, live_bytes, live_count, own_peak, peak, sum_below}
+use Rattle.record_book.specs.Figures.{allocated, alone, calls, greatest_below, live_bytes, live_count, own_peak, peak}
+use Rattle.record_book.specs.Figures.{sum_below}
 use Rattle.record_book.specs.Orders.{IsInterleaving}
 use Rattle.record_book.specs.SummaryText.{summary_of}
 

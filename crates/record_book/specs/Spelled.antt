@@ -1,7 +1,8 @@
 -- The order that bytes spell has an entry for each line that begins with `+` or `-`: the number of
 -- the nearest line before it that is `# thread` and a number, and 0 where there is none. Lines are
 -- quiet where they are neither.
-use Rattle.std.specs.Prelude.{◌≡◌, ℕ, Bool, false, ◌==◌, ◌||◌, if◌then◌else◌, List, [], ◌∷◌, codes, Option, None, Some, unwrap_or}
+use Rattle.std.specs.Prelude.{◌≡◌, ℕ, Bool, false, ◌==◌, ◌||◌, if◌then◌else◌, List, [], ◌∷◌, codes, Option, None, Some}
+use Rattle.std.specs.Prelude.{unwrap_or}
 use Rattle.std.specs.List.{AllByRecursion}
 use Rattle.hp_num.specs.ParsedDec.{parsed_dec}
 use Rattle.hp_outside.specs.Lines.{lines_of}

@@ -1,5 +1,6 @@
 -- What a recording stands for of which a front of the trace may be let go.
-use Rattle.std.specs.Prelude.{◌≡◌, ℕ, ◌+◌, ◌*◌, ◌^◌, ◌≤◌, List, [], ◌∷◌, length, reverse, slice_get, take, unwrap_or, None, is_some, ◌++◌}
+use Rattle.std.specs.Prelude.{◌≡◌, ℕ, ◌+◌, ◌*◌, ◌^◌, ◌≤◌, List, [], ◌∷◌, length, reverse, slice_get, take, unwrap_or}
+use Rattle.std.specs.Prelude.{None, is_some, ◌++◌}
 use Rattle.record_scripts.specs.Events.{events_of}
 use Rattle.record_scripts.specs.Job.{Job}
 use Rattle.record_scripts.specs.Playable.{IsPlayable}

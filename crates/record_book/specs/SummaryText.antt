@@ -5,7 +5,8 @@ use Rattle.std.specs.Prelude.{ℕ, List, ◌++◌, codes, decimal, length}
 use Rattle.record_scripts.specs.Turns.{Turn}
 use Rattle.record_book.specs.Actions.{actions}
 use Rattle.record_book.specs.BookState.{Recording}
-use Rattle.record_book.specs.Figures.{allocated, calls, every, greatest_below, live_bytes, live_count, own_peak, peak, sum_below}
+use Rattle.record_book.specs.Figures.{allocated, calls, every, greatest_below, live_bytes, live_count, own_peak, peak}
+use Rattle.record_book.specs.Figures.{sum_below}
 use Rattle.record_book.specs.declared.summary.Summary.{Summary}
 
 -- the figures of scripts that are recorded in an order: the peak is that of the order, and it lies between the greatest peak of a

@@ -1,5 +1,6 @@
 -- What a call that appends a turn asks of a trace, and what it does to it.
-use Rattle.std.specs.Prelude.{◌≡◌, ◌≢◌, ℕ, ◌+◌, ◌^◌, ◌≤◌, List, length, vec_capacity, vec_len, None, Result, Vec, IfOk, OnErr}
+use Rattle.std.specs.Prelude.{◌≡◌, ◌≢◌, ℕ, ◌+◌, ◌^◌, ◌≤◌, List, length, vec_capacity, vec_len, None, Result, Vec, IfOk}
+use Rattle.std.specs.Prelude.{OnErr}
 use Rattle.stack_table.specs.Continues.{Continues}
 use Rattle.stack_table.specs.Node.{Node}
 use Rattle.stack_table.specs.Stack.{stack}

@@ -1,5 +1,6 @@
 -- Stacks that are interned stay so while nodes grow, and a text that is known stays known.
-use Rattle.std.proofs.Common.{◌≡◌, ℕ, ◌+◌, ◌≤◌, Bool, true, false, cond, List, [], ◌∷◌, ◌++◌, length, None, Some, Option, refl, sym, ap, ◌∙◌, arith, subst, append-nil, length-append, eqb}
+use Rattle.std.proofs.Common.{◌≡◌, ℕ, ◌+◌, ◌≤◌, Bool, true, false, cond, List, [], ◌∷◌, ◌++◌, length, None, Some}
+use Rattle.std.proofs.Common.{Option, refl, sym, ap, ◌∙◌, arith, subst, append-nil, length-append, eqb}
 use Rattle.std.specs.Prelude.{map, nat_lt, not, position, reverse, Ok}
 use Rattle.std.specs.List.{position_or_len}
 use Rattle.std.specs.Option.{option_map}

@@ -1,5 +1,7 @@
 -- Nodes of one frame each: a short stack is interned without a fault where there is room.
-use Rattle.std.proofs.Common.{◌≡◌, ℕ, zero, suc, ◌+◌, ◌-◌, ◌^◌, ◌<◌, ◌≤◌, ◌==◌, ◌&&◌, Bool, true, false, List, [], ◌∷◌, ◌++◌, length, get_or, None, Some, Option, refl, sym, ap, ap₂, ◌∙◌, arith, subst, ◌⊎◌, inl, inr, length-append}
+use Rattle.std.proofs.Common.{◌≡◌, ℕ, zero, suc, ◌+◌, ◌-◌, ◌^◌, ◌<◌, ◌≤◌, ◌==◌, ◌&&◌, Bool, true, false, List, [], ◌∷◌}
+use Rattle.std.proofs.Common.{◌++◌, length, get_or, None, Some, Option, refl, sym, ap, ap₂, ◌∙◌, arith, subst, ◌⊎◌, inl}
+use Rattle.std.proofs.Common.{inr, length-append}
 use Rattle.std.specs.Prelude.{not, position, reverse, sum_by, slice_get, nat_lt}
 use Rattle.std.specs.Option.{option_eq, option_map}
 use Rattle.std.proofs.lemmas.List.{length-reverse, reverse-append, reverse-reverse}

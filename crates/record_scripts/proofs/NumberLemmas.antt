@@ -1,5 +1,7 @@
 -- A blank, digits, and then a blank or the end are the first field of a text, and its number.
-use Rattle.std.proofs.Common.{◌≡◌, ℕ, suc, ◌+◌, ◌-◌, ◌*◌, ◌^◌, ◌<◌, ◌≤◌, false, List, [], ◌∷◌, ◌++◌, length, take, drop, get_or, map, All, Some, IsTrue, refl, sym, ap, subst, ◌∙◌, inl, inr, ◌⊎◌, ◌≢◌, true, eqb, append-nil, length-append, length-take, take_all, arith, lt-ltb}
+use Rattle.std.proofs.Common.{◌≡◌, ℕ, suc, ◌+◌, ◌-◌, ◌*◌, ◌^◌, ◌<◌, ◌≤◌, false, List, [], ◌∷◌, ◌++◌, length, take, drop}
+use Rattle.std.proofs.Common.{get_or, map, All, Some, IsTrue, refl, sym, ap, subst, ◌∙◌, inl, inr, ◌⊎◌, ◌≢◌, true, eqb}
+use Rattle.std.proofs.Common.{append-nil, length-append, length-take, take_all, arith, lt-ltb}
 use Rattle.std.specs.Prelude.{unwrap_or}
 use Rattle.std.proofs.lemmas.Bool.{eqb-true, false≢true}
 use Rattle.std.proofs.lemmas.Bool.Decides.{eqb_tells}

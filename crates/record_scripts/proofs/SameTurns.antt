@@ -10,7 +10,8 @@ use Rattle.record_scripts.specs.declared.turn_entry.TurnKind.{TurnKind}
 use Rattle.record_scripts.specs.declared.turn_entry.TurnKind.TheVariants.{Allocation, Free, Reallocation}
 use Rattle.record_scripts.specs.KeptTurn.{line_of_kind, wide}
 use Rattle.record_scripts.specs.ScriptNodes.{nodes_in}
-use Rattle.record_scripts.specs.ScriptTurns.{AreHeld, IsHeld, script_kept, script_numbered, scripts_kept, scripts_numbered, turn_kept, turn_numbered, turn_said}
+use Rattle.record_scripts.specs.ScriptTurns.{AreHeld, IsHeld, script_kept, script_numbered, scripts_kept}
+use Rattle.record_scripts.specs.ScriptTurns.{scripts_numbered, turn_kept, turn_numbered, turn_said}
 use Rattle.record_scripts.specs.Turns.{Turn}
 use Rattle.record_scripts.proofs.StackNumbers.{AreApart, nodes-apart, number-by-stack}
 

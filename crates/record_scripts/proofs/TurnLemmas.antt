@@ -1,5 +1,6 @@
 -- One turn more: what the table then keeps, and which fault the turn has.
-use Rattle.std.proofs.Common.{◌≡◌, ℕ, ◌+◌, ◌<◌, ◌≤◌, Bool, true, false, cond, List, [], ◌∷◌, ◌++◌, length, map, reverse, Some, refl, sym, ap, ◌∙◌, subst, arith, length-append}
+use Rattle.std.proofs.Common.{◌≡◌, ℕ, ◌+◌, ◌<◌, ◌≤◌, Bool, true, false, cond, List, [], ◌∷◌, ◌++◌, length, map, reverse}
+use Rattle.std.proofs.Common.{Some, refl, sym, ap, ◌∙◌, subst, arith, length-append}
 use Rattle.std.specs.Prelude.{nat_eq, not}
 use Rattle.std.specs.List.{AllByRecursion}
 use Rattle.std.proofs.lemmas.List.{length-map, map-append}
@@ -8,16 +9,19 @@ use Rattle.stack_table.specs.Node.{Node}
 use Rattle.stack_table.specs.Continues.{Continues}
 use Rattle.record_scripts.specs.declared.script.Script.{Script}
 use Rattle.record_scripts.specs.declared.turn_entry.TurnEntry.{TurnEntry}
-use Rattle.record_scripts.specs.Turns.{AreBounded, IsBounded, Turn, allocates, frees, reallocates, is_live, is_live_after}
+use Rattle.record_scripts.specs.Turns.{AreBounded, IsBounded, Turn, allocates, frees, reallocates, is_live}
+use Rattle.record_scripts.specs.Turns.{is_live_after}
 use Rattle.record_scripts.specs.Events.{event_count, events_of_turn}
 use Rattle.record_scripts.specs.Job.{Job, in_last, last_script}
 use Rattle.record_scripts.specs.Playable.{Follows, IsInTurn}
 use Rattle.record_scripts.specs.ScriptFaults.{with_turn}
 use Rattle.record_scripts.specs.ScriptNodes.{nodes_in, nodes_with}
-use Rattle.record_scripts.specs.ScriptTurns.{AreHeld, AreScripts, AreSingle, IsHeld, script_kept, scripts_kept, turn_kept}
+use Rattle.record_scripts.specs.ScriptTurns.{AreHeld, AreScripts, AreSingle, IsHeld, script_kept, scripts_kept}
+use Rattle.record_scripts.specs.ScriptTurns.{turn_kept}
 use Rattle.record_scripts.proofs.KeptLemmas.{all-push, kept-grown}
 use Rattle.record_scripts.proofs.ScriptNodeLemmas.{nodes-begun, nodes-push}
-use Rattle.record_scripts.proofs.TableLemmas.{bounded-push, count-begun, count-push, in-turn-push, last-begun, last-push, live-push}
+use Rattle.record_scripts.proofs.TableLemmas.{bounded-push, count-begun, count-push, in-turn-push, last-begun}
+use Rattle.record_scripts.proofs.TableLemmas.{last-push, live-push}
 
 -- the scripts with the turn
 pub kept-next : (nodes new : List Node) (scripts reserved pushed : List Script) (turn : TurnEntry) (said : Turn)

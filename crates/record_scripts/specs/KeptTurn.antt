@@ -1,7 +1,9 @@
 -- What an entry of a turn says.
 use Rattle.std.specs.Prelude.{ℕ, ◌+◌, ◌*◌, ◌^◌}
 use Rattle.record_scripts.specs.declared.script_line.ScriptLine.{ScriptLine}
-use Rattle.record_scripts.specs.declared.script_line.ScriptLine.TheVariants.{Allocation as AllocationLine, Free as FreeLine, Reallocation as ReallocationLine}
+use Rattle.record_scripts.specs.declared.script_line.ScriptLine.TheVariants.{Allocation as AllocationLine}
+use Rattle.record_scripts.specs.declared.script_line.ScriptLine.TheVariants.{Free as FreeLine}
+use Rattle.record_scripts.specs.declared.script_line.ScriptLine.TheVariants.{Reallocation as ReallocationLine}
 use Rattle.record_scripts.specs.declared.turn_entry.TurnEntry.{TurnEntry}
 use Rattle.record_scripts.specs.declared.turn_entry.TurnKind.{TurnKind}
 use Rattle.record_scripts.specs.declared.turn_entry.TurnKind.TheVariants.{Allocation, Free, Reallocation}

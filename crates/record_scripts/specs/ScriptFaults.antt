@@ -1,8 +1,10 @@
 -- The fault of a line after the lines before it: first that of its grammar, then that of its block,
 -- then that of the number of events; and what a line without a fault adds.
-use Rattle.std.specs.Prelude.{◌≡◌, ◌≢◌, ℕ, ◌+◌, if◌then◌else◌, List, [], ◌++◌, length, nat_lt, Option, None, Some, Result, IfErr, OnOk, OnErr, unwrap_or, false}
+use Rattle.std.specs.Prelude.{◌≡◌, ◌≢◌, ℕ, ◌+◌, if◌then◌else◌, List, [], ◌++◌, length, nat_lt, Option, None, Some}
+use Rattle.std.specs.Prelude.{Result, IfErr, OnOk, OnErr, unwrap_or, false}
 use Rattle.record_scripts.specs.declared.fault.ScriptFault.{ScriptFault}
-use Rattle.record_scripts.specs.declared.fault.ScriptFault.TheVariants.{BadScriptLine, BlockLive, BlockNotLive, TooManyEvents, NoMemory}
+use Rattle.record_scripts.specs.declared.fault.ScriptFault.TheVariants.{BadScriptLine, BlockLive, BlockNotLive}
+use Rattle.record_scripts.specs.declared.fault.ScriptFault.TheVariants.{TooManyEvents, NoMemory}
 use Rattle.ht_lines.specs.Fields.{numbers}
 use Rattle.record_scripts.specs.Skipped.{is_skipped}
 use Rattle.record_scripts.specs.Turns.{Turn, allocates, frees, reallocates, is_live}

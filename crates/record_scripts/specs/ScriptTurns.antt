@@ -1,6 +1,8 @@
 -- How scripts are kept: each turn with the node of its stack, its ID and its size in two parts
 -- each. Turns are numbered where that number stands in the place of the stack.
-use Rattle.std.specs.Prelude.{◌≡◌, ℕ, ◌+◌, ◌*◌, ◌^◌, ◌<◌, ◌≤◌, Bool, if◌then◌else◌, Option, None, Some, List, [], ◌∷◌, length, map, reverse, vec_capacity, vec_len, Result, IfOk, OnOk, OnErr, option_map, slice_get}
+use Rattle.std.specs.Prelude.{◌≡◌, ℕ, ◌+◌, ◌*◌, ◌^◌, ◌<◌, ◌≤◌, Bool, if◌then◌else◌, Option, None, Some, List, [], ◌∷◌}
+use Rattle.std.specs.Prelude.{length, map, reverse, vec_capacity, vec_len, Result, IfOk, OnOk, OnErr, option_map}
+use Rattle.std.specs.Prelude.{slice_get}
 use Rattle.std.specs.List.{AllByRecursion}
 use Rattle.stack_table.specs.Node.{Node}
 use Rattle.stack_table.specs.Continues.{Continues}
@@ -8,7 +10,9 @@ use Rattle.stack_table.specs.Interned.{stack_interned}
 use Rattle.stack_table.specs.Stack.{stack}
 use Rattle.ht_lines.specs.Fields.{numbers}
 use Rattle.record_scripts.specs.declared.script_line.ScriptLine.{ScriptLine}
-use Rattle.record_scripts.specs.declared.script_line.ScriptLine.TheVariants.{Allocation as AllocationLine, Free as FreeLine, Reallocation as ReallocationLine}
+use Rattle.record_scripts.specs.declared.script_line.ScriptLine.TheVariants.{Allocation as AllocationLine}
+use Rattle.record_scripts.specs.declared.script_line.ScriptLine.TheVariants.{Free as FreeLine}
+use Rattle.record_scripts.specs.declared.script_line.ScriptLine.TheVariants.{Reallocation as ReallocationLine}
 use Rattle.record_scripts.specs.declared.turn_entry.TurnEntry.{TurnEntry}
 use Rattle.record_scripts.specs.declared.script.Script.{Script}
 use Rattle.record_scripts.specs.Turns.{AreBounded, Turn, allocates, frees, reallocates, is_live, script_at}

@@ -2,7 +2,8 @@
 -- innermost instruction pointer outwards; or frees the block with an ID; or frees it and allocates
 -- another under the same ID. A block is live after turns where the last of them that names its ID
 -- isn't its free. A block has at most 2^32 bytes, and its stack at most 256 pointers.
-use Rattle.std.specs.Prelude.{ℕ, ◌^◌, ◌≤◌, Bool, true, false, ◌==◌, if◌then◌else◌, List, [], ◌∷◌, length, reverse, slice_get, unwrap_or}
+use Rattle.std.specs.Prelude.{ℕ, ◌^◌, ◌≤◌, Bool, true, false, ◌==◌, if◌then◌else◌, List, [], ◌∷◌, length, reverse}
+use Rattle.std.specs.Prelude.{slice_get, unwrap_or}
 use Rattle.std.specs.List.{AllByRecursion}
 
 -- what a thread does in one turn: it allocates a block of so many bytes under an ID, by a stack that is listed from the

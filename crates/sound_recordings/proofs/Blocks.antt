@@ -1,5 +1,6 @@
 -- What the pointers of a recorded trace stand for: the live blocks of the scripts.
-use Rattle.std.proofs.Common.{◌≡◌, ℕ, ◌==◌, Bool, true, false, cond, List, [], ◌∷◌, ◌++◌, length, Option, None, Some, refl, sym, ap, ◌∙◌, subst, arith, true≢false}
+use Rattle.std.proofs.Common.{◌≡◌, ℕ, ◌==◌, Bool, true, false, cond, List, [], ◌∷◌, ◌++◌, length, Option, None, Some}
+use Rattle.std.proofs.Common.{refl, sym, ap, ◌∙◌, subst, arith, true≢false}
 use Rattle.std.proofs.lemmas.Bool.Decides.{nat_tests}
 use Rattle.ht_lines.specs.Content.{Content, raw_allocation_line, raw_free_line}
 use Rattle.interpret.specs.Eventless.{IsEventless}
@@ -10,7 +11,8 @@ use Rattle.record_book.specs.declared.live_blocks.LiveEntry.{LiveEntry}
 use Rattle.record_book.specs.Figures.{Held, without}
 use Rattle.record_book.specs.HeapPlaces.{Place, address_of, class_of, next_address, places_with, released}
 use Rattle.record_book.specs.HeapState.{AreOnly, entry_in}
-use Rattle.record_book.proofs.Laws.{address-some, entry-allocated, entry-apart, entry-next, entry-released, held-without, held_in, same}
+use Rattle.record_book.proofs.Laws.{address-some, entry-allocated, entry-apart, entry-next, entry-released}
+use Rattle.record_book.proofs.Laws.{held-without, held_in, same}
 
 -- where a live block lies: its address stands for a raw block of its size, whose node has its stack. Where none lies, there is none
 abbrev pub StandsAt : (ℕ → List ℕ) → List Content → Option LiveEntry → Option Held → Type 0

@@ -1,5 +1,7 @@
 -- Without symbols, no line of a recorded trace has a fault after those before it.
-use Rattle.std.proofs.Common.{◌≡◌, ◌≢◌, ℕ, ◌+◌, ◌^◌, ◌<◌, ◌≤◌, ◌==◌, Bool, true, false, cond, List, [], ◌∷◌, ◌++◌, length, map, Option, Some, None, refl, sym, ap, ap₂, ◌∙◌, subst, arith, append_assoc, append-nil, length-append, true≢false}
+use Rattle.std.proofs.Common.{◌≡◌, ◌≢◌, ℕ, ◌+◌, ◌^◌, ◌<◌, ◌≤◌, ◌==◌, Bool, true, false, cond, List, [], ◌∷◌, ◌++◌}
+use Rattle.std.proofs.Common.{length, map, Option, Some, None, refl, sym, ap, ap₂, ◌∙◌, subst, arith, append_assoc}
+use Rattle.std.proofs.Common.{append-nil, length-append, true≢false}
 use Rattle.std.specs.Prelude.{codes, Result}
 use Rattle.std.specs.List.{AllByRecursion, filter_map}
 use Rattle.std.specs.Option.{option_to_list}
@@ -8,7 +10,8 @@ use Rattle.std.proofs.lemmas.List.{map-append}
 use Rattle.std.proofs.lemmas.Slice.Eq.{bytes_eq-Decides}
 use Rattle.hp_num.specs.Hexadecimal.{hexadecimal}
 use Rattle.hp_num.specs.ParsedHex.{parsed_hex}
-use Rattle.ht_lines.specs.Content.{Content, clear_line, command_line, comment_line, module_line, node_line, raw_allocation_line, raw_free_line, version_line}
+use Rattle.ht_lines.specs.Content.{Content, clear_line, command_line, comment_line, module_line, node_line}
+use Rattle.ht_lines.specs.Content.{raw_allocation_line, raw_free_line, version_line}
 use Rattle.ht_lines.specs.Written.{written}
 use Rattle.ht_lines.specs.declared.item.Form.TheVariants.{Raw}
 use Rattle.ht_lines.specs.declared.item.Malformed.{Malformed}
@@ -36,7 +39,8 @@ use Rattle.record_book.specs.RecordedTrace.{last_thread}
 use Rattle.sound_recordings.proofs.Names.{AreNamed, named, suffix-known}
 use Rattle.sound_recordings.proofs.Played.{ArePlayed, Plays, number-few, stacks-few, suffixes-few}
 use Rattle.sound_recordings.proofs.Readable.{IsReadable, all-append, contents-of, version-first}
-use Rattle.sound_recordings.proofs.Said.{before_event, event_said, node_said, nodes_said, switch_said, thread_said, trace_said}
+use Rattle.sound_recordings.proofs.Said.{before_event, event_said, node_said, nodes_said, switch_said, thread_said}
+use Rattle.sound_recordings.proofs.Said.{trace_said}
 
 -- as many nodes as stacks, none of which is deeper than it is long: that of a stack's number is the stack
 pub record AreShallow (known : List (List ℕ)) (nodes : List Node) : Type 0 where

@@ -1,5 +1,7 @@
 -- Actions as scripts bring them, and that the lines of their trace can be read.
-use Rattle.std.proofs.Common.{◌≡◌, ℕ, zero, suc, ◌+◌, ◌*◌, ◌/◌, ◌%◌, ◌^◌, ◌<◌, ◌≤◌, ◌==◌, Bool, true, false, cond, eqb, List, [], ◌∷◌, ◌++◌, length, length-append, Option, None, Some, refl, sym, arith, true≢false}
+use Rattle.std.proofs.Common.{◌≡◌, ℕ, zero, suc, ◌+◌, ◌*◌, ◌/◌, ◌%◌, ◌^◌, ◌<◌, ◌≤◌, ◌==◌, Bool, true, false, cond, eqb}
+use Rattle.std.proofs.Common.{List, [], ◌∷◌, ◌++◌, length, length-append, Option, None, Some, refl, sym, arith}
+use Rattle.std.proofs.Common.{true≢false}
 use Rattle.std.specs.Prelude.{codes, decimal}
 use Rattle.std.specs.Fmt.{digits, digits_onto, digit_glyph}
 use Rattle.std.specs.List.{AllByRecursion}
@@ -16,14 +18,17 @@ use Rattle.interpret.specs.RawContents.{IsRaw}
 use Rattle.record_book.specs.declared.summary.Summary.{Summary}
 use Rattle.record_book.specs.Actions.{Action}
 use Rattle.record_book.specs.Figures.{held_after}
-use Rattle.record_book.specs.HeapPlaces.{address_of, class_of, end_of, next_address, places_after, places_with, released}
+use Rattle.record_book.specs.HeapPlaces.{address_of, class_of, end_of, next_address, places_after, places_with}
+use Rattle.record_book.specs.HeapPlaces.{released}
 use Rattle.record_book.specs.HeapState.{AreOnly}
 use Rattle.record_book.specs.NodeNumbers.{number_in, stacks_after, stacks_with, with_stack, with_suffixes}
 use Rattle.record_book.specs.RecordedTrace.{last_thread}
 use Rattle.record_book.specs.TallyState.{size_in}
-use Rattle.record_book.proofs.Laws.{address-within, both-text, digits-text, end-allocated, end-released, literal-text, next-within, only-with}
+use Rattle.record_book.proofs.Laws.{address-within, both-text, digits-text, end-allocated, end-released, literal-text}
+use Rattle.record_book.proofs.Laws.{next-within, only-with}
 use Rattle.sound_recordings.proofs.Readable.{IsReadable, all-append}
-use Rattle.sound_recordings.proofs.Said.{before_event, event_said, node_said, nodes_said, summary_said, switch_said, thread_said, trace_said}
+use Rattle.sound_recordings.proofs.Said.{before_event, event_said, node_said, nodes_said, summary_said, switch_said}
+use Rattle.sound_recordings.proofs.Said.{thread_said, trace_said}
 
 -- an event after actions that are listed from the last to the first: the block of an allocation isn't live, and it is within its
 -- bounds; that of a free is live

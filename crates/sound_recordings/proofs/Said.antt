@@ -1,8 +1,10 @@
 -- What the lines of a recorded trace say, and that its bytes are these lines.
-use Rattle.std.proofs.Common.{◌≡◌, ℕ, ◌==◌, Bool, true, false, cond, List, [], ◌∷◌, ◌++◌, map, Option, Some, None, refl, sym, ap, ap₂, ◌∙◌, append_assoc, append-nil}
+use Rattle.std.proofs.Common.{◌≡◌, ℕ, ◌==◌, Bool, true, false, cond, List, [], ◌∷◌, ◌++◌, map, Option, Some, None, refl}
+use Rattle.std.proofs.Common.{sym, ap, ap₂, ◌∙◌, append_assoc, append-nil}
 use Rattle.std.specs.Prelude.{codes, decimal, if◌then◌else◌}
 use Rattle.hp_outside.specs.WholeLines.{text_of_lines}
-use Rattle.ht_lines.specs.Content.{Content, command_line, comment_line, node_line, raw_allocation_line, raw_free_line, version_line}
+use Rattle.ht_lines.specs.Content.{Content, command_line, comment_line, node_line, raw_allocation_line, raw_free_line}
+use Rattle.ht_lines.specs.Content.{version_line}
 use Rattle.ht_lines.specs.Written.{written}
 use Rattle.record_scripts.specs.Events.{Event, allocation, free}
 use Rattle.record_scripts.specs.ModuleLines.{module_lines}
@@ -10,7 +12,8 @@ use Rattle.record_book.specs.declared.summary.Summary.{Summary}
 use Rattle.record_book.specs.Actions.{Action}
 use Rattle.record_book.specs.HeapPlaces.{address_of, class_of, next_address, places_after, released}
 use Rattle.record_book.specs.NodeNumbers.{number_in, stacks_after, with_suffixes}
-use Rattle.record_book.specs.RecordedTrace.{event_text, last_thread, line_of, node_text, nodes_text, opening, switch_text, thread_line, trace_text}
+use Rattle.record_book.specs.RecordedTrace.{event_text, last_thread, line_of, node_text, nodes_text, opening}
+use Rattle.record_book.specs.RecordedTrace.{switch_text, thread_line, trace_text}
 use Rattle.record_book.proofs.Laws.{summary_lines}
 use Rattle.sound_traces.proofs.Laws.{version_written}
 

@@ -1,5 +1,6 @@
 -- The figures at any stacks of the events that a recorded trace brings are those of its actions.
-use Rattle.std.proofs.Common.{◌≡◌, ℕ, ◌+◌, Bool, cond, List, [], ◌∷◌, ◌++◌, Option, None, Some, refl, ap, ap₂, ◌∙◌, arith}
+use Rattle.std.proofs.Common.{◌≡◌, ℕ, ◌+◌, Bool, cond, List, [], ◌∷◌, ◌++◌, Option, None, Some, refl, ap, ap₂, ◌∙◌}
+use Rattle.std.proofs.Common.{arith}
 use Rattle.std.specs.Prelude.{sum_by}
 use Rattle.std.proofs.lemmas.List.Sums.{sum_by-append}
 use Rattle.live_ledger.specs.declared.event.Event.{Event}
@@ -9,7 +10,8 @@ use Rattle.record_book.specs.Actions.{Action}
 use Rattle.record_book.specs.Figures as own
 use Rattle.record_book.specs.Figures.{Held, bytes_held, held_after, one_held, weigh, without}
 use Rattle.record_book.proofs.Laws.{held-split, held_in, weight_of}
-use Rattle.sound_recordings.specs.StackFigures.{allocated_at, bytes_called, bytes_freed, calls_at, freed_at, frees_at, one_called, one_freed}
+use Rattle.sound_recordings.specs.StackFigures.{allocated_at, bytes_called, bytes_freed, calls_at, freed_at, frees_at}
+use Rattle.sound_recordings.specs.StackFigures.{one_called, one_freed}
 
 -- what events at some stacks come to, and what actions with their instruction pointers do
 pub record AreAt (at : ℕ → Bool) (counted : List ℕ → Bool) (events : List Event) (acts : List Action) : Type 0 where

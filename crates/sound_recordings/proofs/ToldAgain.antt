@@ -1,5 +1,7 @@
 -- The figures that are told of a recorded trace are those of its recording.
-use Rattle.std.proofs.Common.{◌≡◌, ℕ, ◌+◌, ◌*◌, ◌^◌, ◌<◌, ◌≤◌, Bool, true, false, true≢false, List, [], ◌∷◌, ◌++◌, length, map, Option, None, Some, refl, sym, ap, ap₂, ◌∙◌, subst, arith, append_assoc, append-nil, length-append}
+use Rattle.std.proofs.Common.{◌≡◌, ℕ, ◌+◌, ◌*◌, ◌^◌, ◌<◌, ◌≤◌, Bool, true, false, true≢false, List, [], ◌∷◌, ◌++◌}
+use Rattle.std.proofs.Common.{length, map, Option, None, Some, refl, sym, ap, ap₂, ◌∙◌, subst, arith, append_assoc}
+use Rattle.std.proofs.Common.{append-nil, length-append}
 use Rattle.std.proofs.lemmas.List.{map-append}
 use Rattle.std.specs.Prelude.{if◌then◌else◌, ◌==◌}
 use Rattle.std.specs.List.{AllByRecursion}
@@ -43,16 +45,19 @@ use Rattle.record_book.specs.Orders.{IsUnder}
 use Rattle.record_book.specs.RecordedTrace.{last_thread, recorded, trace_text}
 use Rattle.record_book.specs.SummaryText as recording
 use Rattle.record_book.specs.SummaryText.{rec_summary}
-use Rattle.record_book.proofs.Laws.{held-none, held-some, order-within, summary-text, text-append, threads-order, threads_of}
+use Rattle.record_book.proofs.Laws.{held-none, held-some, order-within, summary-text, text-append, threads-order}
+use Rattle.record_book.proofs.Laws.{threads_of}
 use Rattle.stack_table.specs.Stack.{stack}
 use Rattle.sound_recordings.specs.ToldAgain.{IsToldAgain, TellAgain, TellSame, is_at}
 use Rattle.sound_recordings.proofs.Blocks.{AreLive, live-allocated, live-freed, live-none, there}
 use Rattle.sound_recordings.proofs.Figures.{AreEventsOf, events-allocated, events-freed, events-none}
 use Rattle.sound_recordings.proofs.Names.{AreNamed, named, named-before, suffix-known}
-use Rattle.sound_recordings.proofs.NoFault.{AreSound, IsHarmless, comment-harmless, says-all, sound-all, sound-trace, version-is}
+use Rattle.sound_recordings.proofs.NoFault.{AreSound, IsHarmless, comment-harmless, says-all, sound-all, sound-trace}
+use Rattle.sound_recordings.proofs.NoFault.{version-is}
 use Rattle.sound_recordings.proofs.Played.{ArePlayed, Plays, places-only, summary-readable, trace-readable}
 use Rattle.sound_recordings.proofs.Readable.{IsReadable, all-append, all-raw, all-short, lines-of, no-patterns}
-use Rattle.sound_recordings.proofs.Said.{before_event, event_said, node_said, nodes_said, opening_said, summary-said, summary_said, switch_said, text-of, trace-text, trace_said}
+use Rattle.sound_recordings.proofs.Said.{before_event, event_said, node_said, nodes_said, opening_said, summary-said}
+use Rattle.sound_recordings.proofs.Said.{summary_said, switch_said, text-of, trace-text, trace_said}
 use Rattle.sound_recordings.proofs.StackFigures.{AreAt, at-allocated, at-freed, none-at}
 use Rattle.sound_recordings.proofs.Turns.{are-played}
 

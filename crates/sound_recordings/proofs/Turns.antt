@@ -1,5 +1,7 @@
 -- What an order under playable scripts means are actions that are played.
-use Rattle.std.proofs.Common.{◌≡◌, ℕ, zero, suc, ◌^◌, ◌≤◌, ◌==◌, ◌&&◌, Bool, true, false, cond, List, [], ◌∷◌, ◌++◌, length, map, take, reverse, Option, None, Some, refl, sym, ap, ap₂, ◌∙◌, subst, arith, true≢false, append_assoc, append-nil}
+use Rattle.std.proofs.Common.{◌≡◌, ℕ, zero, suc, ◌^◌, ◌≤◌, ◌==◌, ◌&&◌, Bool, true, false, cond, List, [], ◌∷◌, ◌++◌}
+use Rattle.std.proofs.Common.{length, map, take, reverse, Option, None, Some, refl, sym, ap, ap₂, ◌∙◌, subst, arith}
+use Rattle.std.proofs.Common.{true≢false, append_assoc, append-nil}
 use Rattle.std.specs.Prelude.{slice_get, is_some}
 use Rattle.std.specs.List.{AllByRecursion}
 use Rattle.std.proofs.lemmas.Bool.Decides.{nat_tests}
@@ -8,7 +10,8 @@ use Rattle.std.proofs.lemmas.Option.{same_Some}
 use Rattle.ht_lines.specs.Written.{AreWords}
 use Rattle.record_scripts.specs.Events.{Event, allocation, free, events_of, events_of_turn}
 use Rattle.record_scripts.specs.Playable.{AreInTurn, IsInTurn}
-use Rattle.record_scripts.specs.Turns.{AreBounded, IsBounded, Turn, allocates, frees, reallocates, is_live_after, script_at}
+use Rattle.record_scripts.specs.Turns.{AreBounded, IsBounded, Turn, allocates, frees, reallocates, is_live_after}
+use Rattle.record_scripts.specs.Turns.{script_at}
 use Rattle.record_book.specs.Actions.{Action, actions, actions_back, events_at, times, with_event}
 use Rattle.record_book.specs.Figures.{Held, has_id, held_after, with_events}
 use Rattle.record_book.specs.TallyState.{size_in}

@@ -1,5 +1,6 @@
 -- The lines of events of a generated trace: what they say, and that it follows.
-use Rattle.std.proofs.Common.{◌≡◌, ◌≢◌, ℕ, ◌+◌, ◌*◌, ◌^◌, ◌<◌, ◌≤◌, ◌==◌, ◌&&◌, nat_lt, Bool, true, false, cond, List, ◌++◌, codes, length, slice_get, Some, refl, ap, sym, append-nil, arith}
+use Rattle.std.proofs.Common.{◌≡◌, ◌≢◌, ℕ, ◌+◌, ◌*◌, ◌^◌, ◌<◌, ◌≤◌, ◌==◌, ◌&&◌, nat_lt, Bool, true, false, cond, List}
+use Rattle.std.proofs.Common.{◌++◌, codes, length, slice_get, Some, refl, ap, sym, append-nil, arith}
 use Rattle.std.proofs.lemmas.Bool.{le-ltb, lt-ltb, ltb-true, ne_eqb}
 use Rattle.std.specs.Option.{option_map}
 use Rattle.hp_num.specs.Hexadecimal.{hexadecimal}

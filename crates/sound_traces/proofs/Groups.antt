@@ -1,12 +1,14 @@
 -- The lines of the tables of a generated trace: what they say, and that it follows.
-use Rattle.std.proofs.Common.{◌≡◌, ℕ, ◌+◌, ◌-◌, ◌/◌, ◌^◌, ◌<◌, ◌≤◌, List, [], ◌∷◌, ◌++◌, codes, decimal, false, length, Some, None, unwrap_or, refl, ap, sym, subst, ◌∙◌, inl, append-nil, arith}
+use Rattle.std.proofs.Common.{◌≡◌, ℕ, ◌+◌, ◌-◌, ◌/◌, ◌^◌, ◌<◌, ◌≤◌, List, [], ◌∷◌, ◌++◌, codes, decimal, false, length}
+use Rattle.std.proofs.Common.{Some, None, unwrap_or, refl, ap, sym, subst, ◌∙◌, inl, append-nil, arith}
 use Rattle.std.proofs.Math.Nat.{mod-lt}
 use Rattle.std.proofs.lemmas.Fmt.{hex_one_digit}
 use Rattle.std.proofs.lemmas.Bool.{le-leb, le-ltb}
 use Rattle.hp_num.specs.Hexadecimal.{hexadecimal}
 use Rattle.stack_table.specs.Stack.{frame_count}
 use Rattle.live_ledger.specs.declared.event.Event.{Event}
-use Rattle.ht_lines.specs.Content.{Content, info_line as said_info, instruction_line as said_instruction, node_line as said_node, string_line}
+use Rattle.ht_lines.specs.Content.{Content, info_line as said_info, instruction_line as said_instruction}
+use Rattle.ht_lines.specs.Content.{node_line as said_node, string_line}
 use Rattle.ht_lines.specs.declared.item.Form.TheVariants.{Interpreted}
 use Rattle.ht_lines.specs.Written.{IsWritable, written}
 use Rattle.ht_trace.specs.LineFault.{content_fault, node_fault}

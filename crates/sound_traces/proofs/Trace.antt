@@ -1,5 +1,6 @@
 -- No generated trace has a fault.
-use Rattle.std.proofs.Common.{◌≡◌, ℕ, zero, suc, ◌^◌, ◌<◌, ◌≤◌, cond, List, [], ◌∷◌, ◌++◌, codes, decimal, false, length, Option, Some, None, is_some, refl, ap, sym, subst, ◌∙◌, append-nil, arith}
+use Rattle.std.proofs.Common.{◌≡◌, ℕ, zero, suc, ◌^◌, ◌<◌, ◌≤◌, cond, List, [], ◌∷◌, ◌++◌, codes, decimal, false}
+use Rattle.std.proofs.Common.{length, Option, Some, None, is_some, refl, ap, sym, subst, ◌∙◌, append-nil, arith}
 use Rattle.std.proofs.lemmas.Fmt.{hex_one_digit}
 use Rattle.hp_num.specs.Hexadecimal.{hexadecimal}
 use Rattle.hp_num.specs.ParsedHex.{parsed_hex}
@@ -14,12 +15,16 @@ use Rattle.ht_trace.specs.declared.error.LineError.TheVariants.{NoVersion}
 use Rattle.ht_trace.specs.Instruction.{frame_count_of}
 use Rattle.ht_trace.specs.StandsFor.{StandsFor}
 use Rattle.ht_trace.specs.TableState.{TableState, tables_of}
-use Rattle.trace_gen.specs.GeneratedTrace.{event_line, generated_lines, info_line, instruction_line, lines_from, name_line, node_line}
+use Rattle.trace_gen.specs.GeneratedTrace.{event_line, generated_lines, info_line, instruction_line, lines_from}
+use Rattle.trace_gen.specs.GeneratedTrace.{name_line, node_line}
 use Rattle.trace_gen.specs.Sizes.{Sizes}
 use Rattle.sound_traces.specs.NoFault.{HasNoFault}
 use Rattle.sound_traces.proofs.Events.{BeforeEvent, event_follows, event_reads, says_event}
 use Rattle.sound_traces.proofs.Figures.{no_figures}
-use Rattle.sound_traces.proofs.Groups.{BeforeInfo, BeforeInstruction, BeforeName, BeforeNode, Quiet, info_follows, info_reads, instruction_follows, instruction_reads, name_follows, name_reads, node_follows, node_reads, quiet, says_info, says_instruction, says_name, says_node}
+use Rattle.sound_traces.proofs.Groups.{BeforeInfo, BeforeInstruction, BeforeName, BeforeNode, Quiet, info_follows}
+use Rattle.sound_traces.proofs.Groups.{info_reads, instruction_follows, instruction_reads, name_follows, name_reads}
+use Rattle.sound_traces.proofs.Groups.{node_follows, node_reads, quiet, says_info, says_instruction, says_name}
+use Rattle.sound_traces.proofs.Groups.{says_node}
 use Rattle.sound_traces.proofs.Held.{Held, has_room, string_more}
 use Rattle.sound_traces.proofs.Walk.{Reached, next_line, one_line, walk}
 

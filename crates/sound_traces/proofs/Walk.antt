@@ -1,5 +1,6 @@
 -- From lines that say something without a fault to a trace without one.
-use Rattle.std.proofs.Common.{◌≡◌, ℕ, suc, zero, ◌+◌, ◌^◌, ◌<◌, ◌||◌, true, List, [], ◌∷◌, ◌++◌, Option, Some, None, is_some, unwrap_or, Ok, refl, ap, sym, subst, ◌∙◌, arith}
+use Rattle.std.proofs.Common.{◌≡◌, ℕ, suc, zero, ◌+◌, ◌^◌, ◌<◌, ◌||◌, true, List, [], ◌∷◌, ◌++◌, Option, Some, None}
+use Rattle.std.proofs.Common.{is_some, unwrap_or, Ok, refl, ap, sym, subst, ◌∙◌, arith}
 use Rattle.std.specs.Option.{option_to_list}
 use Rattle.hp_num.specs.Hexadecimal.{hexadecimal}
 use Rattle.hp_num.specs.ParsedHex.{parsed_hex}

@@ -1,24 +1,6 @@
 -- Lemmas on lists of nodes that grow.
-use Rattle.std.proofs.Common.{
-  ◌≡◌,
-  ℕ,
-  List,
-  [],
-  ◌∷◌,
-  ◌++◌,
-  length,
-  take,
-  drop,
-  refl,
-  sym,
-  ap,
-  ◌∙◌,
-  arith,
-  subst,
-  append_assoc,
-  append-nil,
-  length-append,
-}
+use Rattle.std.proofs.Common.{◌≡◌, ℕ, List, [], ◌∷◌, ◌++◌, length, take, drop, refl, sym, ap, ◌∙◌, arith, subst}
+use Rattle.std.proofs.Common.{append_assoc, append-nil, length-append}
 use Rattle.std.proofs.lemmas.List.{take-append-drop}
 use Rattle.std.proofs.Math.Seq.{take-append_seam}
 use Rattle.stack_table.specs.Continues.{Continues}

@@ -1,33 +1,6 @@
 -- Lemmas on the entries of a table, and what is read of one.
-use Rattle.std.proofs.Common.{
-  ◌≡◌,
-  ℕ,
-  zero,
-  suc,
-  ◌+◌,
-  ◌-◌,
-  ◌^◌,
-  ◌<◌,
-  ◌≤◌,
-  List,
-  [],
-  ◌∷◌,
-  ◌++◌,
-  length,
-  take,
-  drop,
-  get_or,
-  refl,
-  sym,
-  ap,
-  ◌∙◌,
-  arith,
-  subst,
-  ◌⊎◌,
-  inl,
-  inr,
-  length-append,
-}
+use Rattle.std.proofs.Common.{◌≡◌, ℕ, zero, suc, ◌+◌, ◌-◌, ◌^◌, ◌<◌, ◌≤◌, List, [], ◌∷◌, ◌++◌, length, take, drop}
+use Rattle.std.proofs.Common.{get_or, refl, sym, ap, ◌∙◌, arith, subst, ◌⊎◌, inl, inr, length-append}
 use Rattle.std.specs.Prelude.{slice_get, Some}
 use Rattle.std.proofs.lemmas.Bool.{cases_lt}
 use Rattle.std.proofs.lemmas.Bool.Decides.{nat_tests}
@@ -42,16 +15,8 @@ use Rattle.stack_table.specs.LowerParents.{HasLowerParents}
 use Rattle.stack_table.specs.Entries.{IsTable, node_of, nodes_of}
 use Rattle.stack_table.specs.Continues.{Continues}
 use Rattle.stack_table.proofs.Continuing.{Continues-append}
-use Rattle.stack_table.proofs.Stacks.{
-  node_at-within,
-  frame_count-zero,
-  frame_count-older,
-  frame_count-newest,
-  frame_count-unfold,
-  HasLowerParents-push,
-  stack-zero,
-  stack-unfold,
-}
+use Rattle.stack_table.proofs.Stacks.{node_at-within, frame_count-zero, frame_count-older, frame_count-newest}
+use Rattle.stack_table.proofs.Stacks.{frame_count-unfold, HasLowerParents-push, stack-zero, stack-unfold}
 
 -- as many nodes as entries
 pub length-nodes_of : (entries : List NodeEntry) → length (nodes_of entries) ≡ length entries

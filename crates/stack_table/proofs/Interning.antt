@@ -1,37 +1,12 @@
 -- Lemmas on a stack that is interned from its outermost instruction pointer on.
-use Rattle.std.proofs.Common.{
-  ◌≡◌,
-  ℕ,
-  ◌+◌,
-  ◌≤◌,
-  List,
-  [],
-  ◌∷◌,
-  ◌++◌,
-  length,
-  None,
-  Some,
-  Option,
-  refl,
-  sym,
-  ap,
-  subst,
-  ◌∙◌,
-  arith,
-  length-append,
-}
+use Rattle.std.proofs.Common.{◌≡◌, ℕ, ◌+◌, ◌≤◌, List, [], ◌∷◌, ◌++◌, length, None, Some, Option, refl, sym, ap, subst}
+use Rattle.std.proofs.Common.{◌∙◌, arith, length-append}
 use Rattle.std.specs.Option.{option_or}
 use Rattle.stack_table.specs.declared.fault.NodeFault.{NodeFault}
 use Rattle.stack_table.specs.AreNodes.{AreNodes}
 use Rattle.stack_table.specs.Continues.{Continues}
-use Rattle.stack_table.specs.Interned.{
-  Interned,
-  node_interned,
-  node_interned_fault,
-  of_number,
-  stack_fault,
-  stack_interned,
-}
+use Rattle.stack_table.specs.Interned.{Interned, node_interned, node_interned_fault, of_number, stack_fault}
+use Rattle.stack_table.specs.Interned.{stack_interned}
 use Rattle.stack_table.specs.Node.{Node}
 use Rattle.stack_table.specs.NodeNumber.{node_number}
 use Rattle.stack_table.specs.Stack.{stack}

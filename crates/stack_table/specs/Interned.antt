@@ -1,23 +1,8 @@
 -- The nodes after a node or a stack is interned: those that are held are found, and the others are
 -- added. A node is interned where it is found under that number, or else added at the end; a stack
 -- is, where the stack of its outer instructions is and then its innermost one, called from there.
-use Rattle.std.specs.Prelude.{
-  ◌==◌,
-  ℕ,
-  ◌+◌,
-  ◌-◌,
-  ◌^◌,
-  if◌then◌else◌,
-  List,
-  [],
-  ◌∷◌,
-  ◌++◌,
-  length,
-  nat_lt,
-  Option,
-  Some,
-  None,
-}
+use Rattle.std.specs.Prelude.{◌==◌, ℕ, ◌+◌, ◌-◌, ◌^◌, if◌then◌else◌, List, [], ◌∷◌, ◌++◌, length, nat_lt, Option, Some}
+use Rattle.std.specs.Prelude.{None}
 use Rattle.std.specs.Option.{option_or}
 use Rattle.stack_table.specs.declared.fault.NodeFault.{NodeFault}
 use Rattle.stack_table.specs.declared.fault.NodeFault.TheVariants.{UnknownParent, TooDeep, Full}

@@ -1,8 +1,10 @@
 -- Lemmas on lists of texts that are kept as numbers, each of which may go on with an earlier one.
-use Rattle.std.proofs.Common.{◌≡◌, ℕ, ◌+◌, ◌<◌, ◌≤◌, inl, inr, List, [], ◌∷◌, ◌++◌, length, map, min, take, get_or, Option, None, Some, refl, sym, ap, ◌∙◌, subst, arith}
+use Rattle.std.proofs.Common.{◌≡◌, ℕ, ◌+◌, ◌<◌, ◌≤◌, inl, inr, List, [], ◌∷◌, ◌++◌, length, map, min, take, get_or}
+use Rattle.std.proofs.Common.{Option, None, Some, refl, sym, ap, ◌∙◌, subst, arith}
 use Rattle.std.specs.Prelude.{All, Err, IfSome, Ok, OnErr, OnOk, Result}
 use Rattle.std.proofs.lemmas.Bool.{cases_lt}
-use Rattle.std.proofs.lemmas.List.{get_or-map, length-take, map-append, map_more, take-append-le, take-map, take-take, take_all, take_min}
+use Rattle.std.proofs.lemmas.List.{get_or-map, length-take, map-append, map_more, take-append-le, take-map, take-take}
+use Rattle.std.proofs.lemmas.List.{take_all, take_min}
 use Rattle.std.proofs.lemmas.List.Elements.{All-append, All-cons, All-get_or, All-nil, All-take, All-weaker}
 use Rattle.intern_tables.specs.Numbers.{name_at}
 use Rattle.cost_tree.specs.Following.{following}

@@ -1,6 +1,7 @@
 -- What a tree needs of a stack's list: its first texts, and none where the stack costs nothing;
 -- from the root its whole list, which begins with that of the stack that its node is called from.
-use Rattle.std.specs.Prelude.{◌≡◌, ℕ, ◌==◌, ◌+◌, if◌then◌else◌, List, [], ◌∷◌, ◌++◌, length, map, take, slice_index, ◌≢◌, ◌<◌}
+use Rattle.std.specs.Prelude.{◌≡◌, ℕ, ◌==◌, ◌+◌, if◌then◌else◌, List, [], ◌∷◌, ◌++◌, length, map, take, slice_index}
+use Rattle.std.specs.Prelude.{◌≢◌, ◌<◌}
 use Rattle.std.specs.List.{range_with_len}
 use Rattle.cost_tree.specs.Costed.{costed}
 use Rattle.cost_tree.specs.GrowingLists.{caller_list}

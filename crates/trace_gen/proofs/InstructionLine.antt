@@ -1,5 +1,6 @@
 -- The line of an instruction as a line of numbers.
-use Rattle.std.proofs.Common.{◌≡◌, ◌≢◌, ℕ, ◌+◌, ◌<◌, ◌≤◌, false, All, List, [], ◌∷◌, ◌++◌, length, ap, ◌∙◌, inl, inr, append-nil, length-append, arith}
+use Rattle.std.proofs.Common.{◌≡◌, ◌≢◌, ℕ, ◌+◌, ◌<◌, ◌≤◌, false, All, List, [], ◌∷◌, ◌++◌, length, ap, ◌∙◌, inl, inr}
+use Rattle.std.proofs.Common.{append-nil, length-append, arith}
 use Rattle.std.proofs.lemmas.Fmt.{hex_one_digit}
 use Rattle.std.proofs.lemmas.List.Elements.{All-append, All-cons, All-weaker}
 use Rattle.hp_num.specs.Digits.{IsLowerHexDigit}

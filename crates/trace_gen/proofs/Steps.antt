@@ -1,5 +1,6 @@
 -- One line of a group, and the step to the next group.
-use Rattle.std.proofs.Common.{◌≡◌, ℕ, suc, ◌+◌, ◌-◌, ◌<◌, ◌≤◌, cond, Bool, List, [], ◌∷◌, ◌++◌, codes, length, refl, ap, ap₂, sym, subst, ◌∙◌, inl, inr, length-append, arith}
+use Rattle.std.proofs.Common.{◌≡◌, ℕ, suc, ◌+◌, ◌-◌, ◌<◌, ◌≤◌, cond, Bool, List, [], ◌∷◌, ◌++◌, codes, length, refl, ap}
+use Rattle.std.proofs.Common.{ap₂, sym, subst, ◌∙◌, inl, inr, length-append, arith}
 use Rattle.std.proofs.lemmas.Bool.Decides.{eqb_tells}
 use Rattle.std.proofs.lemmas.List.FromFn.{length-map-range_with_len}
 use Rattle.trace_gen.specs.Sizes.{Sizes, sizes_of}
@@ -8,8 +9,10 @@ use Rattle.trace_gen.specs.declared.generator.Group.{Group}
 use Rattle.trace_gen.specs.declared.generator.Group.TheVariants.{Version, Names, Instructions, Nodes, Infos, Events}
 use Rattle.trace_gen.specs.Draws.{state_after}
 use Rattle.trace_gen.specs.PutLine.{PutsLine}
-use Rattle.trace_gen.specs.GeneratedTrace.{event_line, generated_lines, info_line, instruction_line, lines_from, name_line, node_line}
-use Rattle.trace_gen.specs.GeneratorState.{BlocksAre, IsAt, IsWithin, MakesLine, Stands, behind, draws_before, events_before, events_left, infos_left, lines_left, lines_yet}
+use Rattle.trace_gen.specs.GeneratedTrace.{event_line, generated_lines, info_line, instruction_line, lines_from}
+use Rattle.trace_gen.specs.GeneratedTrace.{name_line, node_line}
+use Rattle.trace_gen.specs.GeneratorState.{BlocksAre, IsAt, IsWithin, MakesLine, Stands, behind, draws_before}
+use Rattle.trace_gen.specs.GeneratorState.{events_before, events_left, infos_left, lines_left, lines_yet}
 
 -- the first of the lines that are left, and none
 pub one_line : (line : ℕ → List ℕ) (next size : ℕ) → next < size

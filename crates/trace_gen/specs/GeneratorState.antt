@@ -1,12 +1,14 @@
 -- Where a generator stands: what it has drawn, which blocks are live, and which lines are yet to be
 -- made. It gives the next line where the lines yet to be made are that line and those that then
 -- are; and next lines likewise, as one text.
-use Rattle.std.specs.Prelude.{◌≡◌, ℕ, ◌+◌, ◌-◌, ◌*◌, ◌<◌, ◌≤◌, ◌==◌, List, [], ◌∷◌, ◌++◌, codes, length, slice_index_or, All, Bool, true, false, if◌then◌else◌}
+use Rattle.std.specs.Prelude.{◌≡◌, ℕ, ◌+◌, ◌-◌, ◌*◌, ◌<◌, ◌≤◌, ◌==◌, List, [], ◌∷◌, ◌++◌, codes, length, slice_index_or}
+use Rattle.std.specs.Prelude.{All, Bool, true, false, if◌then◌else◌}
 use Rattle.hp_outside.specs.WholeLines.{IsLineText, text_of_lines}
 use Rattle.trace_gen.specs.Sizes.{Sizes, sizes_of}
 use Rattle.trace_gen.specs.declared.generator.Generator.{Generator}
 use Rattle.trace_gen.specs.declared.generator.Group.{Group}
-use Rattle.trace_gen.specs.declared.generator.Group.TheVariants.{Version, Command, Module, Names, Instructions, Nodes, Infos, Events}
+use Rattle.trace_gen.specs.declared.generator.Group.TheVariants.{Version, Command, Module, Names, Instructions, Nodes}
+use Rattle.trace_gen.specs.declared.generator.Group.TheVariants.{Infos, Events}
 use Rattle.trace_gen.specs.Draws.{state_after}
 use Rattle.trace_gen.specs.Moves.{allocated, freed, moves}
 use Rattle.trace_gen.specs.PutLine.{PutsLine}

@@ -1,5 +1,6 @@
 -- Peaks and lifetimes that take a step together.
-use Rattle.std.proofs.Common.{◌≡◌, ◌+◌, ◌^◌, ◌<◌, ◌≤◌, List, [], ◌∷◌, ◌++◌, length, ap, sym, subst, ◌∙◌, append-nil, length-append, arith}
+use Rattle.std.proofs.Common.{◌≡◌, ◌+◌, ◌^◌, ◌<◌, ◌≤◌, List, [], ◌∷◌, ◌++◌, length, ap, sym, subst, ◌∙◌, append-nil}
+use Rattle.std.proofs.Common.{length-append, arith}
 use Rattle.dhat_metrics.specs.Changes.{IsOfHeld}
 use Rattle.dhat_metrics.specs.LifeState as lives
 use Rattle.dhat_metrics.specs.LifeState.{LifeState}

@@ -1,5 +1,6 @@
 -- A ledger and a sampler that take a step together.
-use Rattle.std.proofs.Common.{◌≡◌, ◌⊎◌, inl, inr, ℕ, ◌+◌, List, [], ◌∷◌, ◌++◌, Bool, Option, None, Some, Err, Result, ◌≢◌, IfSome, length, ap, sym, subst, ◌∙◌, append-nil, arith}
+use Rattle.std.proofs.Common.{◌≡◌, ◌⊎◌, inl, inr, ℕ, ◌+◌, List, [], ◌∷◌, ◌++◌, Bool, Option, None, Some, Err, Result}
+use Rattle.std.proofs.Common.{◌≢◌, IfSome, length, ap, sym, subst, ◌∙◌, append-nil, arith}
 use Rattle.cost_tree.specs.declared.frame_test.FrameTest.{FrameTest}
 use Rattle.ht_trace.specs.StandsFor.{StandsFor}
 use Rattle.ht_trace.specs.TableState.{TableState}

@@ -1,5 +1,6 @@
 -- One step of tables and of a follower beside them.
-use Rattle.std.proofs.Common.{◌≡◌, ℕ, ◌+◌, ◌*◌, ◌^◌, ◌<◌, ◌≤◌, List, [], ◌∷◌, ◌++◌, length, take, length-append, None, Some, refl, ap, ap₂, sym, subst, ◌∙◌, append-nil, arith}
+use Rattle.std.proofs.Common.{◌≡◌, ℕ, ◌+◌, ◌*◌, ◌^◌, ◌<◌, ◌≤◌, List, [], ◌∷◌, ◌++◌, length, take, length-append, None}
+use Rattle.std.proofs.Common.{Some, refl, ap, ap₂, sym, subst, ◌∙◌, append-nil, arith}
 use Rattle.std.proofs.lemmas.List.{take-append-le, take_all}
 use Rattle.std.specs.Option.{option_map, option_or, option_to_list}
 use Rattle.live_ledger.specs.declared.event.Event.{Event}
@@ -27,7 +28,8 @@ use Rattle.trace_reading.specs.PeaksView.{peaks_view}
 use Rattle.trace_reading.specs.Reading.{HasRead, HasReadFirst, IsSound, weight_of}
 use Rattle.trace_reading.specs.TotalsView.{totals_view}
 use Rattle.trace_reading.specs.TraceFault.{told}
-use Rattle.trace_reading.specs.TraceReport.{EventFaults, content_fault, fault_among, patterns_before, tables_behind, trace_report}
+use Rattle.trace_reading.specs.TraceReport.{EventFaults, content_fault, fault_among, patterns_before, tables_behind}
+use Rattle.trace_reading.specs.TraceReport.{trace_report}
 use Rattle.trace_reading.specs.declared.fault.TraceFault.TheVariants.{Line, Event as event_fault}
 
 -- peaks of no events have followed nothing

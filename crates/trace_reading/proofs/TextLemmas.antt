@@ -1,5 +1,7 @@
 -- The lines of a text, and how far they were read.
-use Rattle.std.proofs.Common.{◌≡◌, ℕ, suc, ◌+◌, ◌-◌, ◌<◌, ◌≤◌, Bool, true, false, not, cond, ltb, All, List, [], ◌∷◌, ◌++◌, length, take, drop, length-append, length-drop, None, Some, refl, ap, ap₂, sym, subst, ◌∙◌, append-nil, append_assoc, arith}
+use Rattle.std.proofs.Common.{◌≡◌, ℕ, suc, ◌+◌, ◌-◌, ◌<◌, ◌≤◌, Bool, true, false, not, cond, ltb, All, List, [], ◌∷◌}
+use Rattle.std.proofs.Common.{◌++◌, length, take, drop, length-append, length-drop, None, Some, refl, ap, ap₂, sym}
+use Rattle.std.proofs.Common.{subst, ◌∙◌, append-nil, append_assoc, arith}
 use Rattle.std.proofs.lemmas.Bool.{ltb-true}
 use Rattle.std.proofs.lemmas.List.{take-append-drop}
 use Rattle.std.proofs.lemmas.List.Elements.{All-cons, All-nil}
@@ -18,7 +20,8 @@ use Rattle.command_frame.specs.declared.taker.LineRefusal.TheVariants.{Fault, No
 use Rattle.trace_reading.specs.declared.fault.TraceFault.{TraceFault}
 use Rattle.ht_trace.specs.TableState.{TableState}
 use Rattle.trace_reading.specs.Following.{Following}
-use Rattle.trace_reading.specs.Reading.{HasRead, HasReadFirst, HasReadLine, HasReadOne, HasReadText, HasReadTo, IsSound, weight_of}
+use Rattle.trace_reading.specs.Reading.{HasRead, HasReadFirst, HasReadLine, HasReadOne, HasReadText, HasReadTo, IsSound}
+use Rattle.trace_reading.specs.Reading.{weight_of}
 use Rattle.trace_reading.specs.TraceFault.{told}
 use Rattle.trace_reading.specs.TraceReport.{EventFaults, HaveNoFault, content_fault, trace_report}
 use Rattle.command_frame.proofs.Laws.{good_append}

@@ -1,5 +1,6 @@
 -- The summary of a generated trace.
-use Rattle.std.proofs.Common.{◌≡◌, ℕ, ◌+◌, ◌*◌, ◌<◌, ◌≤◌, List, [], ◌∷◌, ◌++◌, Option, None, Some, length, refl, ap, ap₂, sym, subst, ◌∙◌, append-nil, append_assoc, length-append, arith}
+use Rattle.std.proofs.Common.{◌≡◌, ℕ, ◌+◌, ◌*◌, ◌<◌, ◌≤◌, List, [], ◌∷◌, ◌++◌, Option, None, Some, length, refl, ap}
+use Rattle.std.proofs.Common.{ap₂, sym, subst, ◌∙◌, append-nil, append_assoc, length-append, arith}
 use Rattle.std.specs.Option.{option_map, option_or}
 use Rattle.hp_outside.specs.Lines.{lines_of}
 use Rattle.hp_outside.specs.WholeLines.{text_of_lines}

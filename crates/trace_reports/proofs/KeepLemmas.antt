@@ -1,5 +1,7 @@
 -- That an interpretation that ended well keeps the ledger and the stacks of the raw trace.
-use Rattle.std.proofs.Common.{◌≡◌, ◌≢◌, ℕ, ◌+◌, ◌^◌, ◌<◌, ◌≤◌, Bool, true, false, cond, ◌&&◌, List, [], ◌∷◌, ◌++◌, length, Option, Some, None, refl, sym, ap, ◌∙◌, arith, append-nil, append_assoc, drop, take, subst, ne_eqb}
+use Rattle.std.proofs.Common.{◌≡◌, ◌≢◌, ℕ, ◌+◌, ◌^◌, ◌<◌, ◌≤◌, Bool, true, false, cond, ◌&&◌, List, [], ◌∷◌, ◌++◌}
+use Rattle.std.proofs.Common.{length, Option, Some, None, refl, sym, ap, ◌∙◌, arith, append-nil, append_assoc, drop}
+use Rattle.std.proofs.Common.{take, subst, ne_eqb}
 use Rattle.std.specs.Prelude.{nat_le, nat_lt, unwrap_or}
 use Rattle.std.specs.List.{AllByRecursion, cons_option, onto_first, slice_split}
 use Rattle.std.specs.Option.{option_map, option_or, option_to_list}
@@ -29,7 +31,8 @@ use Rattle.interpret.specs.RawLedger.{KeepsLedger}
 use Rattle.interpret.specs.SymbolLine.{Symbol, are_texts, fields, is_tab, is_text, symbol_from, symbol_of}
 use Rattle.interpret.specs.SymbolList.{is_skipped, symbols_of}
 use Rattle.command_frame.specs.Answer.{Answer, after, lines_answer, named_answer, plan_answer}
-use Rattle.command_frame.specs.FirstFault.{Bounds, Refusal, bytes_of_lines, end_refusal, file_fault, first_fault, length_fault, line_fault, line_faults, line_too_long, input_too_long}
+use Rattle.command_frame.specs.FirstFault.{Bounds, Refusal, bytes_of_lines, end_refusal, file_fault, first_fault}
+use Rattle.command_frame.specs.FirstFault.{length_fault, line_fault, line_faults, line_too_long, input_too_long}
 use Rattle.command_frame.specs.Plan.{Ends, one_file}
 use Rattle.command_frame.proofs.Laws.{bytes_of_lines-push}
 use Rattle.command_frame.specs.Report.{Report, gains_from, written}

@@ -1,27 +1,5 @@
-use Rattle.std.proofs.Common.{
-  ◌≡◌,
-  ◌+◌,
-  ◌≤◌,
-  [],
-  ◌∷◌,
-  ◌++◌,
-  length,
-  take,
-  append-nil,
-  Some,
-  None,
-  Ok,
-  Err,
-  IfSome,
-  is_some,
-  if◌then◌else◌,
-  ap,
-  sym,
-  subst,
-  refl,
-  ◌∙◌,
-  arith,
-}
+use Rattle.std.proofs.Common.{◌≡◌, ◌+◌, ◌≤◌, [], ◌∷◌, ◌++◌, length, take, append-nil, Some, None, Ok, Err, IfSome}
+use Rattle.std.proofs.Common.{is_some, if◌then◌else◌, ap, sym, subst, refl, ◌∙◌, arith}
 use Rattle.hp_outside.specs.declared.span.LineFault.TheVariants as reading
 use Rattle.hp_outside.specs.NextLine.{IsLine}
 use Rattle.command_frame.specs.Batch.{HasTakenKept}
@@ -29,18 +7,9 @@ use Rattle.command_frame.specs.Report.{Report, written}
 use Rattle.command_frame.specs.Taker.{Tells}
 use Rattle.command_frame.proofs.OutputLemmas.{append_nothing, front_of_all, kept_as}
 use Rattle.command_frame.proofs.BatchLemmas.{read_batch}
-use Rattle.command_frame.proofs.LinesLoop.{
-  bounds_at,
-  read_end,
-  read_end_fault,
-  read_fault,
-  read_front,
-  read_input_too_long,
-  read_line_too_long,
-  read_more,
-  read_stopped,
-  reading_new,
-}
+use Rattle.command_frame.proofs.LinesLoop.{bounds_at, read_end, read_end_fault, read_fault, read_front}
+use Rattle.command_frame.proofs.LinesLoop.{read_input_too_long, read_line_too_long, read_more, read_stopped}
+use Rattle.command_frame.proofs.LinesLoop.{reading_new}
 use Rattle.command_frame.proofs.lines.read_through_buffer.Goals as goal
 
 pub lines-init : goal.lines-init

@@ -1,25 +1,5 @@
-use Rattle.std.proofs.Common.{
-  ◌≡◌,
-  ℕ,
-  true,
-  false,
-  List,
-  [],
-  ◌∷◌,
-  ◌++◌,
-  ◌∙◌,
-  ap,
-  ap₂,
-  sym,
-  map,
-  take,
-  get_or,
-  append_assoc,
-  append-nil,
-  take_all,
-  rules,
-  arith,
-}
+use Rattle.std.proofs.Common.{◌≡◌, ℕ, true, false, List, [], ◌∷◌, ◌++◌, ◌∙◌, ap, ap₂, sym, map, take, get_or}
+use Rattle.std.proofs.Common.{append_assoc, append-nil, take_all, rules, arith}
 use Rattle.std.proofs.lemmas.List.{map_more}
 use Rattle.std.proofs.lemmas.Result.{IfOk-weaker}
 use Rattle.std.specs.Borrow.{Bor}

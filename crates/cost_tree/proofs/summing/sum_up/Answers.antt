@@ -7,15 +7,8 @@ use Rattle.std.proofs.lemmas.Option.{slice_get_read}
 use Rattle.cost_tree.specs.declared.node.CostNode.{CostNode}
 use Rattle.cost_tree.specs.Growth.{weight}
 use Rattle.cost_tree.specs.Summed.{AreSumsFrom}
-use Rattle.cost_tree.proofs.Totals.{
-  left-fewer,
-  left-moved,
-  parent-lower,
-  sums-parent,
-  sums-root,
-  sums-start,
-  two-within,
-}
+use Rattle.cost_tree.proofs.Totals.{left-fewer, left-moved, parent-lower, sums-parent, sums-root, sums-start}
+use Rattle.cost_tree.proofs.Totals.{two-within}
 use Rattle.cost_tree.proofs.summing.sum_up.Goals as goal
 use Rattle.cost_tree.proofs.summing.sum_up.Goals.{then-node-gt0, else-node-gt0}
 

@@ -10,20 +10,9 @@ use Rattle.serde_json.specs.Read.{converted, number_of, of_json}
 use Rattle.dhat_json.specs.Ahead.{value_ahead}
 use Rattle.dhat_json.specs.DataOf.{json_data}
 use Rattle.dhat_json.specs.Outline.{hollow}
-use Rattle.dhat_json.proofs.AheadLemmas.{
-  boolean_ahead,
-  empty_list,
-  empty_object,
-  hollow_array,
-  hollow_number,
-  hollow_object,
-  no_array,
-  no_object,
-  null_ahead,
-  number_in,
-  number_out,
-  string_ahead,
-}
+use Rattle.dhat_json.proofs.AheadLemmas.{boolean_ahead, empty_list, empty_object, hollow_array, hollow_number}
+use Rattle.dhat_json.proofs.AheadLemmas.{hollow_object, no_array, no_object, null_ahead, number_in, number_out}
+use Rattle.dhat_json.proofs.AheadLemmas.{string_ahead}
 use Rattle.dhat_json.proofs.outline.outline_from.Goals as goal
 
 pub returns-in-Null-clause-outlined : goal.returns-in-Null-clause-outlined

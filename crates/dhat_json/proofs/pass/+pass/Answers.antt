@@ -5,26 +5,11 @@ use Rattle.json.specs.Reads.{token_of}
 use Rattle.json.proofs.Grammar.{left_none, left_some, left-parse_map, read_key-shorter, value_is}
 use Rattle.serde_json.specs.Data.{no_members, item, put}
 use Rattle.serde_json.specs.Read.{of_json, converted}
-use Rattle.dhat_json.proofs.AheadTurns.{
-  item_read,
-  item_refused,
-  items_over,
-  member_read,
-  member_refused,
-  key_refused,
-  members_over,
-}
+use Rattle.dhat_json.proofs.AheadTurns.{item_read, item_refused, items_over, member_read, member_refused, key_refused}
+use Rattle.dhat_json.proofs.AheadTurns.{members_over}
 use Rattle.dhat_json.specs.Ahead.{behind, value_ahead}
-use Rattle.dhat_json.proofs.AheadLemmas.{
-  behind_array,
-  behind_object,
-  boolean_ahead,
-  nothing_ahead,
-  null_ahead,
-  number_in,
-  number_out,
-  string_ahead,
-}
+use Rattle.dhat_json.proofs.AheadLemmas.{behind_array, behind_object, boolean_ahead, nothing_ahead, null_ahead}
+use Rattle.dhat_json.proofs.AheadLemmas.{number_in, number_out, string_ahead}
 use Rattle.dhat_json.proofs.pass.+pass.Goals as goal
 
 pub pass_items-items-init : goal.pass_items-items-init

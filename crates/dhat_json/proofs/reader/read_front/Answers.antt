@@ -2,15 +2,8 @@ use Rattle.std.proofs.lemmas.Result.{err_from_is_err_and, IfOk-at_ok}
 use Rattle.std.specs.Prelude.{All, IsUtf8}
 use Rattle.dhat_json.specs.DataOf.{data_of}
 use Rattle.dhat_json.proofs.Findings.{fault_follows, read_as, refused_as}
-use Rattle.dhat_json.proofs.ProfileFindings.{
-  front_is,
-  nothing_in_front,
-  refused_in_head,
-  refused_in_list,
-  refused_in_run,
-  refused_in_table,
-  refused_in_units,
-}
+use Rattle.dhat_json.proofs.ProfileFindings.{front_is, nothing_in_front, refused_in_head, refused_in_list}
+use Rattle.dhat_json.proofs.ProfileFindings.{refused_in_run, refused_in_table, refused_in_units}
 use Rattle.dhat_json.proofs.reader.read_front.Goals as goal
 
 pub returns-in_err-head-clause-read : goal.returns-in_err-head-clause-read

@@ -8,15 +8,8 @@ use Rattle.dhat_json.specs.declared.key.Key.TheVariants.{Mode, Verb, Bklt, Bkacc
 use Rattle.dhat_json.specs.DhatFault.{Finding, first_of, needed, no_object, version_findings, head_findings}
 use Rattle.dhat_json.specs.Parts.{head_in}
 use Rattle.dhat_json.specs.ProfileIn.{text_at, flag_at}
-use Rattle.dhat_json.proofs.Findings.{
-  passed_then,
-  found_first,
-  first_later,
-  first_stays,
-  fault_follows,
-  read_as,
-  refused_as,
-}
+use Rattle.dhat_json.proofs.Findings.{passed_then, found_first, first_later, first_stays, fault_follows, read_as}
+use Rattle.dhat_json.proofs.Findings.{refused_as}
 use Rattle.dhat_json.proofs.reader.read_head.Goals as goal
 
 -- what is found from the second flag, the first flag, the second text and the first one on

@@ -5,7 +5,8 @@ use Rattle.command_frame.specs.RunsTo.{shown, taken}
 use Rattle.command_frame.specs.Texts.{texts_of}
 use Rattle.heaprec_commands.specs.FilesPlan.{scripts_front}
 use Rattle.heaprec_commands.specs.FrontRead.{FrontRead, LeadsTo}
-use Rattle.heaprec_commands.proofs.FrontLemmas.{bytes_of, front_behind, next_name, no_name, no_script, none_read, script_ends, scripts_further}
+use Rattle.heaprec_commands.proofs.FrontLemmas.{bytes_of, front_behind, next_name, no_name, no_script, none_read}
+use Rattle.heaprec_commands.proofs.FrontLemmas.{script_ends, scripts_further}
 use Rattle.heaprec_commands.proofs.files.read_scripts.Goals as goal
 
 pub each_name-init : goal.each_name-init

@@ -1,40 +1,16 @@
 -- The text has a number exactly where each byte is a digit, there are 1 to 20 of them, and their number fits 64 bits.
-use Rattle.std.proofs.Common.{
-  ◌≡◌,
-  ◌<◌,
-  length,
-  take,
-  get_or,
-  Some,
-  arith,
-  sym,
-  ap,
-  ◌∙◌,
-  take_all,
-  subst,
-  eqb-true,
-  pos_of_ne-zero,
-  refl,
-}
+use Rattle.std.proofs.Common.{◌≡◌, ◌<◌, length, take, get_or, Some, arith, sym, ap, ◌∙◌, take_all, subst, eqb-true}
+use Rattle.std.proofs.Common.{pos_of_ne-zero, refl}
 use Rattle.std.proofs.lemmas.Bool.{eqb-false}
 use Rattle.std.proofs.lemmas.Int.Digits.{digits_value_more, digits_more}
 use Rattle.std.specs.Char.{digit_value}
 use Rattle.std.specs.Str.Parse.{AllDigits, digits_value}
 use Rattle.hp_num.specs.ParsedDec.{parsed_dec}
-use Rattle.hp_num.proofs.DecimalTexts.{
-  not_parsed,
-  not_taken,
-  parsed_numeral,
-  dec_text_parsed,
-  written,
-  not_dec_text_at,
-  too_large_at,
-}
+use Rattle.hp_num.proofs.DecimalTexts.{not_parsed, not_taken, parsed_numeral, dec_text_parsed, written, not_dec_text_at}
+use Rattle.hp_num.proofs.DecimalTexts.{too_large_at}
 use Rattle.hp_num.proofs.decimal.parse_dec.Goals as goal
-use Rattle.hp_num.proofs.decimal.parse_dec.Goals.{
-  then-is_empty-via-then-is_empty,
-  then-is_empty-via-else-is_empty+then-text-gt-MAX_DIGITS,
-}
+use Rattle.hp_num.proofs.decimal.parse_dec.Goals.{then-is_empty-via-then-is_empty}
+use Rattle.hp_num.proofs.decimal.parse_dec.Goals.{then-is_empty-via-else-is_empty+then-text-gt-MAX_DIGITS}
 
 pub returns-then-is_empty-clause-parsed : goal.returns-then-is_empty-clause-parsed
 returns-then-is_empty-clause-parsed c =

@@ -1,23 +1,6 @@
 -- The table has the value of each byte that is a digit, and 255 for the others.
-use Rattle.std.proofs.Common.{
-  ◌≡◌,
-  ℕ,
-  ◌<◌,
-  ◌≤◌,
-  Bool,
-  true,
-  false,
-  map,
-  cond,
-  ltb,
-  get_or,
-  refl,
-  ap,
-  ◌∙◌,
-  arith,
-  ltb-true,
-  ltb-false,
-}
+use Rattle.std.proofs.Common.{◌≡◌, ℕ, ◌<◌, ◌≤◌, Bool, true, false, map, cond, ltb, get_or, refl, ap, ◌∙◌, arith}
+use Rattle.std.proofs.Common.{ltb-true, ltb-false}
 use Rattle.std.proofs.lemmas.Bool.Decides.{nat_tests}
 use Rattle.std.proofs.lemmas.List.FromFn.{get_or-map-range_with_len}
 use Rattle.std.specs.Char.{digit_value}

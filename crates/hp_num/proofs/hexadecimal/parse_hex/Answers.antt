@@ -1,39 +1,16 @@
 -- The text has a number exactly where each byte is a digit and there are 1 to 16 of them.
-use Rattle.std.proofs.Common.{
-  ◌≡◌,
-  ◌<◌,
-  length,
-  take,
-  get_or,
-  Some,
-  arith,
-  sym,
-  ap,
-  ◌∙◌,
-  take_all,
-  subst,
-  eqb-true,
-  pos_of_ne-zero,
-  refl,
-}
+use Rattle.std.proofs.Common.{◌≡◌, ◌<◌, length, take, get_or, Some, arith, sym, ap, ◌∙◌, take_all, subst, eqb-true}
+use Rattle.std.proofs.Common.{pos_of_ne-zero, refl}
 use Rattle.std.proofs.lemmas.Bool.{eqb-false}
 use Rattle.std.proofs.lemmas.Int.Digits.{digits_value_more, digits_more}
 use Rattle.std.specs.Char.{digit_value}
 use Rattle.std.specs.Str.Parse.{AllDigits, digits_value}
 use Rattle.hp_num.specs.ParsedHex.{parsed_hex}
-use Rattle.hp_num.proofs.HexTexts.{
-  not_parsed,
-  parsed_numeral,
-  hex_text_parsed,
-  written,
-  room_for_digit,
-  not_hex_text_at,
-}
+use Rattle.hp_num.proofs.HexTexts.{not_parsed, parsed_numeral, hex_text_parsed, written, room_for_digit}
+use Rattle.hp_num.proofs.HexTexts.{not_hex_text_at}
 use Rattle.hp_num.proofs.hexadecimal.parse_hex.Goals as goal
-use Rattle.hp_num.proofs.hexadecimal.parse_hex.Goals.{
-  then-is_empty-via-then-is_empty,
-  then-is_empty-via-else-is_empty+then-text-gt-MAX_DIGITS,
-}
+use Rattle.hp_num.proofs.hexadecimal.parse_hex.Goals.{then-is_empty-via-then-is_empty}
+use Rattle.hp_num.proofs.hexadecimal.parse_hex.Goals.{then-is_empty-via-else-is_empty+then-text-gt-MAX_DIGITS}
 
 pub returns-then-is_empty-clause-parsed : goal.returns-then-is_empty-clause-parsed
 returns-then-is_empty-clause-parsed c =

@@ -1,25 +1,6 @@
 -- What is parsed is the one field.
-use Rattle.std.proofs.Common.{
-  ◌≡◌,
-  ◌≤◌,
-  ◌-◌,
-  List,
-  ℕ,
-  [],
-  ◌∷◌,
-  Option,
-  Some,
-  None,
-  length,
-  take,
-  drop,
-  get_or,
-  take_all,
-  sym,
-  ap,
-  ◌∙◌,
-  arith,
-}
+use Rattle.std.proofs.Common.{◌≡◌, ◌≤◌, ◌-◌, List, ℕ, [], ◌∷◌, Option, Some, None, length, take, drop, get_or, take_all}
+use Rattle.std.proofs.Common.{sym, ap, ◌∙◌, arith}
 use Rattle.std.specs.Prelude.{IfSome}
 use Rattle.hp_num.specs.ParsedHex.{parsed_hex}
 use Rattle.ht_lines.specs.Fields.{fields}

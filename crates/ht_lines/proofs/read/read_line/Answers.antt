@@ -1,31 +1,6 @@
 -- The line by its first byte and the rest, test by test.
-use Rattle.std.proofs.Common.{
-  ◌≡◌,
-  ◌≢◌,
-  ◌<◌,
-  ◌≤◌,
-  ◌-◌,
-  ◌∙◌,
-  ℕ,
-  true,
-  false,
-  cond,
-  List,
-  [],
-  ◌∷◌,
-  length,
-  get_or,
-  take,
-  drop,
-  take_all,
-  Ok,
-  Err,
-  arith,
-  refl,
-  sym,
-  ap,
-  subst,
-}
+use Rattle.std.proofs.Common.{◌≡◌, ◌≢◌, ◌<◌, ◌≤◌, ◌-◌, ◌∙◌, ℕ, true, false, cond, List, [], ◌∷◌, length, get_or, take}
+use Rattle.std.proofs.Common.{drop, take_all, Ok, Err, arith, refl, sym, ap, subst}
 use Rattle.std.specs.Prelude.{IfOk}
 use borrow.Author.Tests.{ne_eqb}
 use Rattle.ht_lines.specs.declared.item.Form.{Form}

@@ -1,26 +1,5 @@
-use Rattle.std.proofs.Common.{
-  ◌≡◌,
-  ◌<◌,
-  ◌≤◌,
-  ◌-◌,
-  ◌∙◌,
-  ℕ,
-  true,
-  false,
-  List,
-  [],
-  ◌∷◌,
-  length,
-  take,
-  drop,
-  take_all,
-  None,
-  Some,
-  arith,
-  refl,
-  sym,
-  ap,
-}
+use Rattle.std.proofs.Common.{◌≡◌, ◌<◌, ◌≤◌, ◌-◌, ◌∙◌, ℕ, true, false, List, [], ◌∷◌, length, take, drop, take_all}
+use Rattle.std.proofs.Common.{None, Some, arith, refl, sym, ap}
 use Rattle.std.specs.Prelude.{nat_le}
 use Rattle.std.proofs.lemmas.Bool.{le-leb}
 use Rattle.std.proofs.lemmas.Bool.Decides.{nat_tests}

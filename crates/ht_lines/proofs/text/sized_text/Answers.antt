@@ -1,25 +1,5 @@
-use Rattle.std.proofs.Common.{
-  ◌≡◌,
-  ◌≢◌,
-  ◌<◌,
-  ◌≤◌,
-  ◌-◌,
-  ◌∙◌,
-  ℕ,
-  List,
-  [],
-  ◌∷◌,
-  length,
-  take,
-  drop,
-  take_all,
-  None,
-  Some,
-  arith,
-  refl,
-  sym,
-  ap,
-}
+use Rattle.std.proofs.Common.{◌≡◌, ◌≢◌, ◌<◌, ◌≤◌, ◌-◌, ◌∙◌, ℕ, List, [], ◌∷◌, length, take, drop, take_all, None, Some}
+use Rattle.std.proofs.Common.{arith, refl, sym, ap}
 use borrow.Author.Tests.{eq-eqb, ne_eqb}
 use Rattle.hp_num.specs.ParsedHex.{parsed_hex}
 use Rattle.ht_lines.specs.Fields.{before_blank}

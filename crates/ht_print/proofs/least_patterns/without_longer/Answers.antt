@@ -2,7 +2,8 @@ use Rattle.std.proofs.Common.{Bor, Global, Vec, ℕ, ◌+◌, List, take_all, sy
 use Rattle.ht_print.specs.LeastPatterns.{begins_any}
 use Rattle.ht_print.proofs.LeastLemmas.{AreOfFront, front-longer, front-more, front-none}
 use Rattle.ht_print.proofs.least_patterns.without_longer.Goals as goal
-use Rattle.ht_print.proofs.least_patterns.without_longer.Goals.{then-not-begins_with_last+in_ok-push, else-not-begins_with_last}
+use Rattle.ht_print.proofs.least_patterns.without_longer.Goals.{then-not-begins_with_last+in_ok-push}
+use Rattle.ht_print.proofs.least_patterns.without_longer.Goals.{else-not-begins_with_last}
 
 abbrev pattern_of : Bor (List ℕ) → List ℕ
 pattern_of pattern = pattern.now

@@ -1,20 +1,5 @@
-use Rattle.std.proofs.Common.{
-  ℕ,
-  ◌≡◌,
-  ◌++◌,
-  List,
-  [],
-  ◌∷◌,
-  map,
-  length,
-  Option,
-  arith,
-  sym,
-  ◌∙◌,
-  ap,
-  append-nil,
-  append_assoc,
-}
+use Rattle.std.proofs.Common.{ℕ, ◌≡◌, ◌++◌, List, [], ◌∷◌, map, length, Option, arith, sym, ◌∙◌, ap, append-nil}
+use Rattle.std.proofs.Common.{append_assoc}
 use Rattle.std.specs.Prelude.{unwrap_or}
 use Rattle.std.specs.List.{range_with_len}
 use Rattle.std.proofs.lemmas.List.FromFn.{map-range_with_len_more}

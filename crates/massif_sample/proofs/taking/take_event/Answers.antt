@@ -10,7 +10,8 @@ use Rattle.massif_sample.specs.Offers.{offer_at, offers, peak_before}
 use Rattle.massif_sample.specs.Running.{AreFigures, passes_most, with_event}
 use Rattle.massif_sample.specs.SamplesState.{SamplesState}
 use Rattle.massif_sample.specs.StandsFor.{IsSampling, StandsFor}
-use Rattle.massif_sample.proofs.Standing.{counted-event, counted-is, due-detailed, fault-counted, fault-passed, figures-behind, of-taken, stands-counted, stands-passed, tells-counted}
+use Rattle.massif_sample.proofs.Standing.{counted-event, counted-is, due-detailed, fault-counted, fault-passed}
+use Rattle.massif_sample.proofs.Standing.{figures-behind, of-taken, stands-counted, stands-passed, tells-counted}
 use Rattle.massif_sample.proofs.Trees.{both_ok, of_err}
 use Rattle.massif_sample.proofs.taking.take_event.Goals as goal
 

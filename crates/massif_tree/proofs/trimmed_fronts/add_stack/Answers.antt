@@ -6,7 +6,8 @@ use Rattle.cost_tree.specs.Following.{following}
 use Rattle.ht_trace.specs.declared.frame.FrameAt.{FrameAt}
 use Rattle.ht_trace.specs.StackFrames.{outer_frames}
 use Rattle.massif_tree.specs.FunctionLists.{is_listed, without_listed}
-use Rattle.massif_tree.proofs.Trimming.{followed, listed-on, outer-is, outer-none, trimmed-all, trimmed-not, trimmed-nothing, trimmed-some, trimmed-whole}
+use Rattle.massif_tree.proofs.Trimming.{followed, listed-on, outer-is, outer-none, trimmed-all, trimmed-not}
+use Rattle.massif_tree.proofs.Trimming.{trimmed-nothing, trimmed-some, trimmed-whole}
 use Rattle.massif_tree.proofs.trimmed_fronts.add_stack.Goals as goal
 
 pub returns-then-front-len-clause-added : goal.returns-then-front-len-clause-added

@@ -5,7 +5,8 @@ use Rattle.ms_print.specs.Ends.{children_at}
 use Rattle.ms_print.specs.Pendings.{AreRoots, IsHeld, bar_before, blank_below, entry_bytes, entry_children, entry_label}
 use Rattle.ms_print.specs.Shown.{shown}
 use Rattle.ms_print.specs.TreeText.{entries_text, entry_line}
-use Rattle.ms_print.proofs.LeftLemmas.{All-uncons, IsLeft, children-first, left-begin, left-lighter, left-step, next-first, weight}
+use Rattle.ms_print.proofs.LeftLemmas.{All-uncons, IsLeft, children-first, left-begin, left-lighter, left-step}
+use Rattle.ms_print.proofs.LeftLemmas.{next-first, weight}
 use Rattle.ms_print.proofs.tree.put_entries.Goals as goal
 use Rattle.ms_print.proofs.tree.put_entries.Goals.{In-Some, In_ok-push_reversed-2}
 

@@ -1,4 +1,5 @@
-use Rattle.std.proofs.Common.{◌≡◌, ◌+◌, ◌≤◌, ℕ, List, [], ◌∷◌, ◌++◌, Some, None, Ok, Err, Bool, false, ap, sym, subst, refl, ◌∙◌, arith}
+use Rattle.std.proofs.Common.{◌≡◌, ◌+◌, ◌≤◌, ℕ, List, [], ◌∷◌, ◌++◌, Some, None, Ok, Err, Bool, false, ap, sym, subst}
+use Rattle.std.proofs.Common.{refl, ◌∙◌, arith}
 use Rattle.std.specs.Prelude.{is_some, if◌then◌else◌}
 use Rattle.hp_outside.specs.declared.span.LineFault.TheVariants as reading
 use Rattle.hp_outside.specs.NextLine.{IsLine}
@@ -12,7 +13,8 @@ use Rattle.order_check.specs.declared.verdict.Verdict.{Verdict}
 use Rattle.order_check.specs.declared.verdict.Verdict.TheVariants.{No}
 use Rattle.order_check.specs.Following.{is_front, whole_events}
 use Rattle.order_check.specs.Spelling.{IsSpelling}
-use Rattle.order_check.proofs.LinesLoop.{read-end, read-more, read-past, read-refused, read-stopped, read-too-long, reading-new}
+use Rattle.order_check.proofs.LinesLoop.{read-end, read-more, read-past, read-refused, read-stopped, read-too-long}
+use Rattle.order_check.proofs.LinesLoop.{reading-new}
 use Rattle.order_check.proofs.check.compare_lines.Goals as goal
 
 pub lines-init : goal.lines-init

@@ -1,6 +1,7 @@
 use Rattle.std.proofs.Common.{◌≡◌, ℕ, true, ap, refl, sym, subst, ◌∙◌}
 use Rattle.cost_history.specs.Marks.{RoomyMarks, is_marked}
-use Rattle.cost_history.proofs.Marking.{marked_with-full, marked_with-listed, marked_with-marked, marked_with-other, marked_with-still}
+use Rattle.cost_history.proofs.Marking.{marked_with-full, marked_with-listed, marked_with-marked, marked_with-other}
+use Rattle.cost_history.proofs.Marking.{marked_with-still}
 use Rattle.cost_history.proofs.Telling.{tells-marked}
 use Rattle.cost_history.proofs.history.CostHistory.mark.Goals as goal
 

@@ -4,15 +4,8 @@ use Rattle.std.specs.Prelude.{slice_get}
 use Rattle.std.proofs.lemmas.List.{length-map}
 use Rattle.cost_tree.specs.CutShapes.{AreCutAlike, equal_cost, left, raised_counts}
 use Rattle.cost_tree.specs.Cuts.{cut_lists}
-use Rattle.cost_tree.proofs.Lengthening.{
-  cut-count,
-  raised-alike,
-  raised-count,
-  raised-enough,
-  raised-from,
-  raised-left,
-  raised-some,
-}
+use Rattle.cost_tree.proofs.Lengthening.{cut-count, raised-alike, raised-count, raised-enough, raised-from, raised-left}
+use Rattle.cost_tree.proofs.Lengthening.{raised-some}
 use Rattle.cost_tree.proofs.cut.Cut.lengthen_some.Goals as goal
 
 -- as many costs as there are lists

@@ -1,22 +1,5 @@
-use Rattle.std.proofs.Common.{
-  ◌≡◌,
-  ℕ,
-  ◌-◌,
-  inl,
-  inr,
-  List,
-  [],
-  ◌∷◌,
-  ◌++◌,
-  Some,
-  length,
-  get_or,
-  refl,
-  sym,
-  ap,
-  ◌∙◌,
-  arith,
-}
+use Rattle.std.proofs.Common.{◌≡◌, ℕ, ◌-◌, inl, inr, List, [], ◌∷◌, ◌++◌, Some, length, get_or, refl, sym, ap, ◌∙◌}
+use Rattle.std.proofs.Common.{arith}
 use Rattle.std.specs.Prelude.{slice_get, slice_index}
 use Rattle.std.proofs.lemmas.Bool.{cases_lt}
 use Rattle.std.proofs.lemmas.Option.{get_or_from_slice_get, slice_get-get_or}

@@ -6,15 +6,8 @@ use Rattle.dhat_json.specs.Document.{dhat_in_some}
 use Rattle.dhat_json.specs.Opening.{begins_object}
 use Rattle.dhat_json.proofs.AheadTurns.{whole}
 use Rattle.dhat_json.proofs.Findings.{fault_follows}
-use Rattle.dhat_json.proofs.SurveyLemmas.{
-  empty_text,
-  none_left,
-  object_and_more,
-  object_read,
-  object_refused,
-  one_left,
-  other_text,
-}
+use Rattle.dhat_json.proofs.SurveyLemmas.{empty_text, none_left, object_and_more, object_read, object_refused, one_left}
+use Rattle.dhat_json.proofs.SurveyLemmas.{other_text}
 use Rattle.dhat_json.proofs.survey.Survey.of.Goals as goal
 
 pub returns-in_err-first-clause-fault : goal.returns-in_err-first-clause-fault

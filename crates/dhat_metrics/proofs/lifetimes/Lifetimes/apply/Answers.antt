@@ -1,6 +1,7 @@
 use Rattle.std.proofs.Common.{◌≡◌, ◌+◌, ◌-◌, refl, arith}
 use Rattle.live_ledger.specs.declared.event.Event.TheVariants.{Alloc, Free}
-use Rattle.dhat_metrics.proofs.LifeLemmas.{HasMoved, TakesFree, moved-alloc, moved-free, sound-of, stands-move, stands-tick, takes-alloc, takes-free}
+use Rattle.dhat_metrics.proofs.LifeLemmas.{HasMoved, TakesFree, moved-alloc, moved-free, sound-of, stands-move}
+use Rattle.dhat_metrics.proofs.LifeLemmas.{stands-tick, takes-alloc, takes-free}
 use Rattle.dhat_metrics.proofs.lifetimes.Lifetimes.apply.Goals as goal
 
 pub allocate-requires-clause-fits : goal.allocate-requires-clause-fits

@@ -7,7 +7,8 @@ use Rattle.dhat_trace.specs.declared.segment.Segment.{Segment}
 use Rattle.dhat_trace.specs.FrameTable.{AddsTexts, frame_texts, profile_frame}
 use Rattle.dhat_trace.specs.KnownPlaces.{HavePlaces}
 use Rattle.dhat_trace.proofs.KnownLemmas.{known_later, outer_are, outer_none}
-use Rattle.dhat_trace.proofs.SegmentLemmas.{IsBegun, adds_outwards, begun_here, begun_more, begun_noted, gathered, root_gathered, told_outer}
+use Rattle.dhat_trace.proofs.SegmentLemmas.{IsBegun, adds_outwards, begun_here, begun_more, begun_noted, gathered}
+use Rattle.dhat_trace.proofs.SegmentLemmas.{root_gathered, told_outer}
 use Rattle.dhat_trace.proofs.frame_table.FrameTable.gather.Goals as goal
 
 pub returns-then-stack-eq0-clause-known : goal.returns-then-stack-eq0-clause-known

@@ -1,70 +1,18 @@
-use Rattle.std.proofs.Common.{
-  rules,
-  ◌≡◌,
-  ◌+◌,
-  ◌-◌,
-  ◌∙◌,
-  ap,
-  sym,
-  subst,
-  None,
-  Some,
-  unwrap_or,
-  refl,
-  Err,
-  inl,
-  if◌then◌else◌,
-  true,
-  length,
-  List,
-  ℕ,
-  ◌<◌,
-  IsSome,
-  ◌↔◌,
-  arith,
-}
+use Rattle.std.proofs.Common.{rules, ◌≡◌, ◌+◌, ◌-◌, ◌∙◌, ap, sym, subst, None, Some, unwrap_or, refl, Err, inl}
+use Rattle.std.proofs.Common.{if◌then◌else◌, true, length, List, ℕ, ◌<◌, IsSome, ◌↔◌, arith}
 use Rattle.std.proofs.lemmas.Bool.{false≢true}
 use Rattle.std.specs.List.{position_or_len}
 use Rattle.std.specs.Io.KnownBytes.{prepend_known}
 use Rattle.hp_outside.specs.Lines.{is_line_feed}
 use Rattle.hp_outside.specs.declared.line_end.Judgement.TheVariants.{Line, TooLong, Open}
 use Rattle.hp_outside.specs.Faults.{Rose}
-use Rattle.hp_outside.proofs.LineLemmas.{
-  told_rest,
-  line_answer,
-  line_given,
-  line_has_feed,
-  last_has_none,
-  too_long_answer,
-  too_long_read,
-  position_or_len-grown,
-  last_given,
-  last_answer,
-  last_short,
-}
-use Rattle.hp_outside.proofs.ReaderLemmas.{
-  last_within,
-  stands_still,
-  front_within,
-  seen_within,
-  length-taken,
-  passed_on,
-  no_longer,
-  given_read,
-  IsLastEnded,
-  last_ended,
-  last_refused,
-  last_still,
-  undecided_still,
-  rise_from,
-  no_more,
-  none_is_some,
-  judged_in,
-  stands_refused,
-  stands_on,
-  stands_bounded,
-  stands_within,
-}
+use Rattle.hp_outside.proofs.LineLemmas.{told_rest, line_answer, line_given, line_has_feed, last_has_none}
+use Rattle.hp_outside.proofs.LineLemmas.{too_long_answer, too_long_read, position_or_len-grown, last_given, last_answer}
+use Rattle.hp_outside.proofs.LineLemmas.{last_short}
+use Rattle.hp_outside.proofs.ReaderLemmas.{last_within, stands_still, front_within, seen_within, length-taken}
+use Rattle.hp_outside.proofs.ReaderLemmas.{passed_on, no_longer, given_read, IsLastEnded, last_ended, last_refused}
+use Rattle.hp_outside.proofs.ReaderLemmas.{last_still, undecided_still, rise_from, no_more, none_is_some, judged_in}
+use Rattle.hp_outside.proofs.ReaderLemmas.{stands_refused, stands_on, stands_bounded, stands_within}
 use Rattle.hp_outside.proofs.WholeLinesLemmas.{last-one, line-one}
 use Rattle.hp_outside.proofs.line_reader.LineReader.next.Goals as goal
 

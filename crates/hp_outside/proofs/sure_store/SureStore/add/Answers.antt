@@ -2,13 +2,8 @@ use Rattle.std.proofs.Common.{◌≡◌, ◌∙◌, ap}
 use Rattle.std.specs.FinMap.{insert}
 use Rattle.hp_outside.specs.Folder.{file_of}
 use Rattle.hp_outside.specs.HeldFiles.{folder_of}
-use Rattle.hp_outside.proofs.HeldFilesLemmas.{
-  within-pushed,
-  folder_of-pushed,
-  state-push,
-  file_of-insert,
-  file_of-insert_other,
-}
+use Rattle.hp_outside.proofs.HeldFilesLemmas.{within-pushed, folder_of-pushed, state-push, file_of-insert}
+use Rattle.hp_outside.proofs.HeldFilesLemmas.{file_of-insert_other}
 use Rattle.hp_outside.proofs.sure_store.SureStore.add.Goals as goal
 
 -- the folder with the file that was added

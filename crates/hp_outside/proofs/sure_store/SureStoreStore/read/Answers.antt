@@ -2,14 +2,8 @@ use Rattle.std.proofs.Common.{◌≡◌, ◌≤◌, ◌-◌, ◌∙◌, ap, sym,
 use Rattle.hp_outside.specs.HeldFiles.{bytes_at, folder_of, left_at}
 use Rattle.hp_outside.specs.SureStoreState.{read_count, after_read}
 use Rattle.hp_outside.proofs.Known.{front_of_read, rest_of}
-use Rattle.hp_outside.proofs.HeldFilesLemmas.{
-  bytes_at-here,
-  left_at-here,
-  read_count-here,
-  after_read-here,
-  within-moved,
-  nothing_left,
-}
+use Rattle.hp_outside.proofs.HeldFilesLemmas.{bytes_at-here, left_at-here, read_count-here, after_read-here}
+use Rattle.hp_outside.proofs.HeldFilesLemmas.{within-moved, nothing_left}
 use Rattle.hp_outside.proofs.sure_store.SureStoreStore.read.Goals as goal
 
 -- the bytes of the current file

@@ -13,10 +13,8 @@ use Rattle.std.specs.List.{AllByRecursion}
 use Rattle.ht_trace.proofs.LineLemmas.{events-push, fault-told, grows-after, stands-push}
 use Rattle.ht_trace.specs.Sound.{IsSound}
 use Rattle.ht_trace.proofs.tables.Tables.line.Goals as goal
-use Rattle.ht_trace.proofs.tables.Tables.line.Goals.{
-  else-is_none-via-then-is_none+else-not-may_stand_first,
-  else-is_none-via-else-is_none,
-}
+use Rattle.ht_trace.proofs.tables.Tables.line.Goals.{else-is_none-via-then-is_none+else-not-may_stand_first}
+use Rattle.ht_trace.proofs.tables.Tables.line.Goals.{else-is_none-via-else-is_none}
 
 or-right : (a b : Bool) → b ≡ true → (a || b) ≡ true
 or-right true b is = refl

@@ -1,13 +1,7 @@
 use Rattle.std.proofs.Common.{refl, sym, ◌∙◌}
 use Rattle.std.proofs.lemmas.Bool.{false≢true}
-use Rattle.intern_tables.proofs.Tables.{
-  number_of-place,
-  number_of-none,
-  IsNumberOf-keys,
-  Contains-any,
-  none-Contains,
-  list_any-names,
-}
+use Rattle.intern_tables.proofs.Tables.{number_of-place, number_of-none, IsNumberOf-keys, Contains-any, none-Contains}
+use Rattle.intern_tables.proofs.Tables.{list_any-names}
 use Rattle.intern_tables.proofs.names.Names.find.Goals as goal
 
 pub returns-in_err-place-clause-number : goal.returns-in_err-place-clause-number

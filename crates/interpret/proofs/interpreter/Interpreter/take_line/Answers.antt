@@ -8,7 +8,8 @@ use Rattle.ht_trace.specs.VersionLines.{may_stand_first}
 use Rattle.interpret.specs.InterpreterState.{InterpreterState}
 use Rattle.interpret.proofs.StandLemmas.{raw-writable}
 use Rattle.interpret.proofs.interpreter.Interpreter.take_line.Goals as goal
-use Rattle.interpret.proofs.interpreter.Interpreter.take_line.Goals.{else-is_none-via-then-is_none+else-not-may_stand_first, else-is_none-via-else-is_none}
+use Rattle.interpret.proofs.interpreter.Interpreter.take_line.Goals.{else-is_none-via-then-is_none+else-not-may_stand_first}
+use Rattle.interpret.proofs.interpreter.Interpreter.take_line.Goals.{else-is_none-via-else-is_none}
 
 or-right : (a b : Bool) → b ≡ true → (a || b) ≡ true
 or-right true b is = refl

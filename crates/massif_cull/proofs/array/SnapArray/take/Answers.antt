@@ -4,7 +4,8 @@ use Rattle.massif_cull.specs.ArrayState.{IsSound}
 use Rattle.massif_cull.specs.TakenAs.{taken_as}
 use Rattle.massif_cull.proofs.Standing.{stands-push}
 use Rattle.massif_cull.proofs.Origins.{come-from, origins-normal, origins-detailed, origins-peak}
-use Rattle.massif_cull.proofs.Taking.{none-among, none-kept, none-loads, normal-kept, normal-loads, detailed-kept, detailed-loads, peak-kept, peak-loads}
+use Rattle.massif_cull.proofs.Taking.{none-among, none-kept, none-loads, normal-kept, normal-loads, detailed-kept}
+use Rattle.massif_cull.proofs.Taking.{detailed-loads, peak-kept, peak-loads}
 use Rattle.massif_cull.proofs.array.SnapArray.take.Goals as goal
 
 pub returns-in-No-clause-takes : goal.returns-in-No-clause-takes

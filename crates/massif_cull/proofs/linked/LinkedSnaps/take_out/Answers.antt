@@ -5,7 +5,8 @@ use Rattle.massif_cull.specs.declared.linked.Held.{Held}
 use Rattle.massif_cull.specs.declared.linked.LinkedSnaps.TheInside.{Inside}
 use Rattle.massif_cull.specs.Held.{held_at}
 use Rattle.massif_cull.proofs.Linking.{contained-at, each-at}
-use Rattle.massif_cull.proofs.SnapsLemmas.{IsShrunk, place-inside, slot-there, entry-there, load-there, shrunk-entries, shrunk-loads, shrunk-stays}
+use Rattle.massif_cull.proofs.SnapsLemmas.{IsShrunk, place-inside, slot-there, entry-there, load-there, shrunk-entries}
+use Rattle.massif_cull.proofs.SnapsLemmas.{shrunk-loads, shrunk-stays}
 use Rattle.massif_cull.proofs.linked.LinkedSnaps.take_out.Goals as goal
 use Rattle.massif_cull.proofs.linked.LinkedSnaps.take_out.Given.{Over}
 use Rattle.massif_cull.proofs.linked.LinkedSnaps.take_out.Goals.{After-unwrap}

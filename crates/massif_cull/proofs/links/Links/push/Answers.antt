@@ -2,7 +2,8 @@ use Rattle.std.proofs.Common.{◌≡◌, ◌∙◌, List, ℕ, [], ◌∷◌, �
 use Rattle.std.proofs.lemmas.List.{length-set}
 use Rattle.massif_cull.specs.declared.links.Links.TheInside.{Inside}
 use Rattle.massif_cull.specs.LinksState.{LinksState}
-use Rattle.massif_cull.proofs.LinksLemmas.{IsPushed, popped, free-below, last-most, places-count, places-different, pushed-places, pushed-stays}
+use Rattle.massif_cull.proofs.LinksLemmas.{IsPushed, popped, free-below, last-most, places-count, places-different}
+use Rattle.massif_cull.proofs.LinksLemmas.{pushed-places, pushed-stays}
 use Rattle.massif_cull.proofs.links.Links.push.Goals as goal
 use Rattle.massif_cull.proofs.links.Links.push.Goals.{After-link-2}
 

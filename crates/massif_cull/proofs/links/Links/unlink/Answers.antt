@@ -2,7 +2,8 @@ use Rattle.std.proofs.Common.{◌∙◌, ap, refl, arith}
 use Rattle.std.specs.Prelude.{remove}
 use Rattle.massif_cull.specs.declared.links.Links.TheInside.{Inside}
 use Rattle.massif_cull.specs.LinksState.{LinksState}
-use Rattle.massif_cull.proofs.LinksLemmas.{IsUnlinked, before-most, after-most, unlinked-places, unlinked-stays, places-different}
+use Rattle.massif_cull.proofs.LinksLemmas.{IsUnlinked, before-most, after-most, unlinked-places, unlinked-stays}
+use Rattle.massif_cull.proofs.LinksLemmas.{places-different}
 use Rattle.massif_cull.proofs.links.Links.unlink.Goals as goal
 use Rattle.massif_cull.proofs.links.Links.unlink.Goals.{After-push_reserved}
 

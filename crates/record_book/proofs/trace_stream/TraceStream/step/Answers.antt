@@ -1,4 +1,5 @@
-use Rattle.std.proofs.Common.{rules, true≢false, ◌≡◌, ℕ, ◌+◌, ◌^◌, ◌<◌, false, true, List, [], ◌++◌, length, Option, Some, sym, ap, ◌∙◌, subst, arith, append-nil}
+use Rattle.std.proofs.Common.{rules, true≢false, ◌≡◌, ℕ, ◌+◌, ◌^◌, ◌<◌, false, true, List, [], ◌++◌, length, Option}
+use Rattle.std.proofs.Common.{Some, sym, ap, ◌∙◌, subst, arith, append-nil}
 use Rattle.std.specs.Prelude.{option_map, slice_get, slice_set, unwrap_or}
 use Rattle.std.specs.Arc.{arc_value}
 use Rattle.stack_table.specs.Stack.{stack}
@@ -17,7 +18,8 @@ use Rattle.record_book.specs.StreamState.{IsStream, Streamed, done_at}
 use Rattle.record_book.specs.RecordedTrace.{recorded}
 use Rattle.record_book.specs.TakenTurn.{IsFresh}
 use Rattle.record_book.specs.TraceState.{IsTrace, with_turn}
-use Rattle.record_book.proofs.StreamLemmas.{few-done, fresh-at, place-is, room, stream-next, text-more, turn-found, under-of}
+use Rattle.record_book.proofs.StreamLemmas.{few-done, fresh-at, place-is, room, stream-next, text-more, turn-found}
+use Rattle.record_book.proofs.StreamLemmas.{under-of}
 use Rattle.record_book.proofs.OrderLemmas.{all-taken, more-done, more-turn, stepped-done, stepped-turn}
 use Rattle.record_book.proofs.trace_stream.TraceStream.step.Goals as goal
 

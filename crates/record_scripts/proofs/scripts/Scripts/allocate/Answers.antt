@@ -1,4 +1,5 @@
-use Rattle.std.proofs.Common.{None, Some, ◌≡◌, ℕ, Bool, true, false, cond, List, length, refl, sym, ap, ap₂, ◌∙◌, subst, arith}
+use Rattle.std.proofs.Common.{None, Some, ◌≡◌, ℕ, Bool, true, false, cond, List, length, refl, sym, ap, ap₂, ◌∙◌, subst}
+use Rattle.std.proofs.Common.{arith}
 use Rattle.std.specs.Prelude.{nat_eq}
 use Rattle.record_scripts.specs.LiveIds.{has_id}
 use Rattle.stack_table.specs.Node.{Node}
@@ -12,7 +13,8 @@ use Rattle.record_scripts.specs.ScriptFaults.{with_turn}
 use Rattle.record_scripts.specs.ScriptTurns.{AreScripts, scripts_kept, turn_said}
 use Rattle.record_scripts.proofs.KeptLemmas.{held-grown}
 use Rattle.record_scripts.proofs.KnownLemmas.{few-ips}
-use Rattle.record_scripts.proofs.TurnLemmas.{kept-next, live-there, live-undone, not-false, not-true, scripts-next, scripts-same, view-next}
+use Rattle.record_scripts.proofs.TurnLemmas.{kept-next, live-there, live-undone, not-false, not-true, scripts-next}
+use Rattle.record_scripts.proofs.TurnLemmas.{scripts-same, view-next}
 use Rattle.record_scripts.proofs.scripts.Scripts.allocate.Goals as goal
 
 pub invariant_of-self-in_err-reserve_turn : goal.invariant_of-self-in_err-reserve_turn

@@ -7,11 +7,9 @@ use Rattle.stack_table.proofs.Stacks.{node_at-within}
 use Rattle.stack_table.proofs.EntryLemmas.{length-nodes_of, node_at-number}
 use Rattle.stack_table.proofs.IndexLemmas.{indexed-number, indexed-passed}
 use Rattle.stack_table.proofs.node_index.NodeIndex.find_indexed.Goals as goal
-use Rattle.stack_table.proofs.node_index.NodeIndex.find_indexed.Goals.{
-  then-number-eq0-via-then-number-eq0,
-  then-number-eq0-via-else-number-eq0+then-number-self,
-  then-number-eq0-via-else-number-eq0+else-number-self+then-not-is_call,
-}
+use Rattle.stack_table.proofs.node_index.NodeIndex.find_indexed.Goals.{then-number-eq0-via-then-number-eq0}
+use Rattle.stack_table.proofs.node_index.NodeIndex.find_indexed.Goals.{then-number-eq0-via-else-number-eq0+then-number-self}
+use Rattle.stack_table.proofs.node_index.NodeIndex.find_indexed.Goals.{then-number-eq0-via-else-number-eq0+else-number-self+then-not-is_call}
 
 pub returns-in_err-number-clause-passed : goal.returns-in_err-number-clause-passed
 returns-in_err-number-clause-passed c =

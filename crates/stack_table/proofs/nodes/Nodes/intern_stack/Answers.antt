@@ -1,21 +1,5 @@
-use Rattle.std.proofs.Common.{
-  ◌≡◌,
-  ℕ,
-  ◌∷◌,
-  ◌++◌,
-  List,
-  [],
-  None,
-  Some,
-  Option,
-  refl,
-  sym,
-  ap,
-  ◌∙◌,
-  arith,
-  subst,
-  append_assoc,
-}
+use Rattle.std.proofs.Common.{◌≡◌, ℕ, ◌∷◌, ◌++◌, List, [], None, Some, Option, refl, sym, ap, ◌∙◌, arith, subst}
+use Rattle.std.proofs.Common.{append_assoc}
 use Rattle.std.specs.Option.{IfSome}
 use Rattle.stack_table.specs.Continues.{Continues}
 use Rattle.stack_table.specs.Interned.{node_interned, node_interned_fault, stack_fault, stack_interned}

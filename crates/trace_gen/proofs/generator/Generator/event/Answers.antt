@@ -1,4 +1,5 @@
-use Rattle.std.proofs.Common.{◌≡◌, ℕ, ◌+◌, ◌*◌, ◌<◌, ◌≤◌, ◌==◌, ◌&&◌, Bool, List, ◌∷◌, slice_index_or, slice_set, length, refl, ap, ap₂, subst, sym, ◌∙◌, arith}
+use Rattle.std.proofs.Common.{◌≡◌, ℕ, ◌+◌, ◌*◌, ◌<◌, ◌≤◌, ◌==◌, ◌&&◌, Bool, List, ◌∷◌, slice_index_or, slice_set}
+use Rattle.std.proofs.Common.{length, refl, ap, ap₂, subst, sym, ◌∙◌, arith}
 use Rattle.std.proofs.lemmas.Grind.{get_or_default_zero}
 use Rattle.trace_gen.specs.Draws.{draw, next_state, number_below, state_after}
 use Rattle.trace_gen.specs.Moves.{Move, allocated, freed, moves, next_move}

@@ -1,7 +1,8 @@
 use Rattle.std.proofs.Common.{Ok, arith, rules}
 use Rattle.massif_sample.specs.declared.fault.SampleFault.TheVariants as sample
 use Rattle.trace_profiles.proofs.LivesLemmas.{line_length}
-use Rattle.trace_profiles.proofs.SamplingLemmas.{at_some, event_followed, event_let_go, fault_told, known_told, left_alone}
+use Rattle.trace_profiles.proofs.SamplingLemmas.{at_some, event_followed, event_let_go, fault_told, known_told}
+use Rattle.trace_profiles.proofs.SamplingLemmas.{left_alone}
 use Rattle.trace_profiles.proofs.sampling.SamplingFollower.event.Goals as goal
 
 pub event-requires-clause-event : goal.event-requires-clause-event
