@@ -2,7 +2,7 @@
 use Rattle.std.proofs.Common.{◌≡◌, ◌≢◌, ℕ, ◌+◌, true, List, [], ◌∷◌, ◌++◌, length, take, Option, refl, ap, sym, subst}
 use Rattle.std.proofs.Common.{◌∙◌, arith}
 use Rattle.std.proofs.Math.Seq.{take-append-add}
-use Rattle.hp_outside.specs.Faults.{Rose}
+use Rattle.hp_outside.specs.Faults.{Faulted}
 use Rattle.hp_outside.specs.Folder.{Folder}
 use Rattle.hp_outside.specs.Taken.{WhereTold}
 use Rattle.command_frame.specs.FirstFault.{Bounds}
@@ -37,7 +37,7 @@ module _ (texts : Texts) (bounds : Bounds) (files : Option Folder) (last name wa
             is
             ∙
             (ap (after early)
-            (rest.quiet folder known (λ rose. quiet (subst (λ n. Rose n now.faults) faults rose))
+            (rest.quiet folder known (λ rose. quiet (subst (λ n. Faulted n now.faults) faults rose))
             (λ e. four (status ∙ e)) (λ e. five (status ∙ e)))
             ∙ goes folder known);
         front = λ folder known.

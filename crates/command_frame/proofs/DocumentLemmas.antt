@@ -7,7 +7,7 @@ use Rattle.hp_outside.specs.declared.store.OpenFault.{OpenFault}
 use Rattle.hp_outside.specs.declared.store.OpenFault.TheVariants as opening
 use Rattle.hp_outside.specs.declared.whole.WholeFault.{WholeFault}
 use Rattle.hp_outside.specs.declared.whole.WholeFault.TheVariants as reading
-use Rattle.hp_outside.specs.Faults.{Rose}
+use Rattle.hp_outside.specs.Faults.{Faulted}
 use Rattle.hp_outside.specs.Folder.{Folder, file_of}
 use Rattle.hp_outside.specs.Taken.{WhereTold}
 use Rattle.hp_outside.specs.Whole.{WholeAnswer}
@@ -57,8 +57,8 @@ open_where bounds (Some bytes) opening.Absent result is tells = let other = tell
 open_where bounds (Some bytes) opening.Failed result is tells = tt
 
 open_calls : (files : Option Folder) (before now : Moment) (fault : OpenFault) → Opened before now false
-    → (fault ≡ opening.Absent → files ≡ None → Rose before.faults now.faults)
-    → (fault ≡ opening.Failed → Rose before.faults now.faults) → DocumentCalls files before now (end_of_document fault)
+    → (fault ≡ opening.Absent → files ≡ None → Faulted before.faults now.faults)
+    → (fault ≡ opening.Failed → Faulted before.faults now.faults) → DocumentCalls files before now (end_of_document fault)
 open_calls files before now opening.Absent opened absent failed = (opened, absent refl)
 open_calls files before now opening.Failed opened absent failed = (opened, failed refl)
 
@@ -72,8 +72,8 @@ pub document_unopened : (texts : Texts) (bounds : Bounds) (files : Option Folder
     (fault : OpenFault) (result : Result (Unit {0}) OpenFault) (halt : Halt)
     → result ≡ Err fault
     → WhereTold files (λ folder. (result ≡ Err opening.Absent) ↔ (file_of folder name ≡ None)) → Opened before now false
-    → (fault ≡ opening.Absent → files ≡ None → Rose before.faults now.faults)
-    → (fault ≡ opening.Failed → Rose before.faults now.faults)
+    → (fault ≡ opening.Absent → files ≡ None → Faulted before.faults now.faults)
+    → (fault ≡ opening.Failed → Faulted before.faults now.faults)
     → (status_code halt.status ≢ 5 → halt_answer texts halt ≡ end_answer texts name (end_of_open fault))
     → (status_code halt.status ≡ 5 → halt_answer texts halt ≡ memory_answer texts)
     → (end : DocumentEnd) × (DocumentRead bounds files name before now end × GivesWhole texts name end (Err halt))
@@ -109,7 +109,7 @@ fault_where bounds (Some bytes) start reading.InputTooLong is some told = long_h
 fault_where bounds (Some bytes) start reading.NoMemory is some told = tt
 
 fault_calls : (files : Option Folder) (before now : Moment) (fault : WholeFault) → Opened before now true
-    → (fault ≡ reading.ReadFailed → Rose before.faults now.faults)
+    → (fault ≡ reading.ReadFailed → Faulted before.faults now.faults)
     → (fault ≢ reading.ReadFailed → now.faults ≡ before.faults) → DocumentCalls files before now (end_of_whole fault)
 fault_calls files before now reading.ReadFailed opened failed sound = (opened, failed refl)
 fault_calls files before now reading.InputTooLong opened failed sound = (opened, sound (λ is. absurd (cc)))
@@ -124,7 +124,7 @@ pub document_stopped : (texts : Texts) (bounds : Bounds) (files : Option Folder)
     (start : Option (List ℕ)) (fault : WholeFault) (halt : Halt)
     → WhereTold files (λ folder. start ≡ file_of folder name) → WhereTold files (λ folder. IsSome (file_of folder name))
     → WhereTold start (λ bytes. WholeAnswer bounds.input bytes (Err fault))
-    → Opened before now true → (fault ≡ reading.ReadFailed → Rose before.faults now.faults)
+    → Opened before now true → (fault ≡ reading.ReadFailed → Faulted before.faults now.faults)
     → (fault ≢ reading.ReadFailed → now.faults ≡ before.faults)
     → (status_code halt.status ≢ 5 → halt_answer texts halt ≡ document_end_answer texts name (end_of_whole fault))
     → (status_code halt.status ≡ 5 → halt_answer texts halt ≡ memory_answer texts)

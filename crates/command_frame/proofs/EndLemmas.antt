@@ -8,7 +8,7 @@ use Rattle.std.specs.Option.{option_or}
 use Rattle.std.specs.Io.KnownBytes.{append_known}
 use Rattle.hp_outside.specs.declared.store.OpenFault.{OpenFault}
 use Rattle.hp_outside.specs.declared.store.OpenFault.TheVariants as opening
-use Rattle.hp_outside.specs.Faults.{Rose}
+use Rattle.hp_outside.specs.Faults.{Faulted}
 use Rattle.hp_outside.specs.Folder.{Folder, file_of}
 use Rattle.hp_outside.specs.Lines.{lines_of}
 use Rattle.hp_outside.specs.Taken.{WhereTold}
@@ -102,8 +102,8 @@ none_taken bounds report None left = refl
 none_taken bounds report (Some bytes) left = record { more = lines_of bytes; lines_are = refl; no_fault = refl }
 
 open_calls : (files : Option Folder) (before now : Moment) (fault : OpenFault) → Opened before now false
-    → (fault ≡ opening.Absent → files ≡ None → Rose before.faults now.faults)
-    → (fault ≡ opening.Failed → Rose before.faults now.faults) → Calls files before now (end_of_open fault)
+    → (fault ≡ opening.Absent → files ≡ None → Faulted before.faults now.faults)
+    → (fault ≡ opening.Failed → Faulted before.faults now.faults) → Calls files before now (end_of_open fault)
 open_calls files before now opening.Absent opened absent failed = (opened, absent refl)
 open_calls files before now opening.Failed opened absent failed = (opened, failed refl)
 
@@ -119,8 +119,8 @@ pub unopened_end : (texts : Texts) (bounds : Bounds) (files : Option Folder) (na
     (has : List (List ℕ) → Type 0) (before now : Moment) (old : Option (List ℕ))
     (fault : OpenFault) (result : Result (Unit {0}) OpenFault) (halt : Halt) → result ≡ Err fault
     → WhereTold files (λ folder. (result ≡ Err opening.Absent) ↔ (file_of folder name ≡ None)) → Opened before now false
-    → (fault ≡ opening.Absent → files ≡ None → Rose before.faults now.faults)
-    → (fault ≡ opening.Failed → Rose before.faults now.faults)
+    → (fault ≡ opening.Absent → files ≡ None → Faulted before.faults now.faults)
+    → (fault ≡ opening.Failed → Faulted before.faults now.faults)
     → (status_code halt.status ≢ 5 → halt_answer texts halt ≡ end_answer texts name (end_of_open fault))
     → (status_code halt.status ≡ 5 → halt_answer texts halt ≡ memory_answer texts)
     → (end : FileEnd)
@@ -189,7 +189,7 @@ passed_end texts bounds files name report has before now start old new taken run
 stop_calls : {F : Type 0} (told : F → Told) (files : Option Folder) (before now : Moment) (stop : LinesStop F)
     (taken : List (List ℕ)) (count : ℕ)
     → Opened before now true
-    → (stop ≡ ReadFailed → Rose before.faults now.faults)
+    → (stop ≡ ReadFailed → Faulted before.faults now.faults)
     → (stop ≢ ReadFailed → stop ≢ WriteFailed → now.faults ≡ before.faults)
     → Calls files before now (end_of told (Err stop) taken count)
 stop_calls told files before now (AtLine number fault) taken count opened failed sound =
@@ -219,7 +219,7 @@ pub stopped_end : {F : Type 0} (tells : F → Told) (texts : Texts) (bounds : Bo
     → result ≡ Err stop
     → LinesRun bounds report start now.left old new [] (end_of tells result taken count)
     → WhereTold files (λ folder. start ≡ file_of folder name) → WhereTold files (λ folder. IsSome (file_of folder name))
-    → Opened before now true → (stop ≡ ReadFailed → Rose before.faults now.faults)
+    → Opened before now true → (stop ≡ ReadFailed → Faulted before.faults now.faults)
     → (stop ≢ ReadFailed → stop ≢ WriteFailed → now.faults ≡ before.faults)
     → (status_code halt.status ≢ 5
     → halt_answer texts halt ≡ end_answer texts name (end_of tells (Err stop) taken count))

@@ -3,14 +3,14 @@ use Rattle.std.proofs.Common.{◌≡◌, ◌≢◌, ℕ, ◌+◌, ◌≤◌, tru
 use Rattle.std.proofs.Common.{sym, subst, ◌∙◌, inl, inr, arith}
 use Rattle.std.proofs.lemmas.Bool.Decides.{eqb_tells}
 use Rattle.std.specs.Io.KnownBytes.{append_known}
-use Rattle.hp_outside.specs.Faults.{Rose}
+use Rattle.hp_outside.specs.Faults.{Faulted}
 use Rattle.hp_outside.specs.Folder.{Folder}
 use Rattle.hp_outside.specs.Taken.{GainsFront, WhereTold}
 use Rattle.command_frame.specs.Answer.{Answer, after, memory_answer, usage_answer}
 use Rattle.command_frame.specs.Delivers.{DeliversTo}
 use Rattle.command_frame.specs.FirstFault.{Bounds}
 use Rattle.command_frame.specs.Moment.{Moment}
-use Rattle.command_frame.specs.Outside.{ErrRose, Gives, OutRose, Outside, StoreRose}
+use Rattle.command_frame.specs.Outside.{ErrFaulted, Gives, OutFaulted, Outside, StoreFaulted}
 use Rattle.command_frame.specs.RunEnds.{IsDelivered, RunEnds}
 use Rattle.command_frame.specs.RunFacts.{NotRead}
 use Rattle.command_frame.specs.RunsTo.{Shown, Taken}
@@ -29,7 +29,7 @@ record TaskFacts (texts : Texts) (bounds : Bounds) (files : Option Folder) (task
   pub judged : WhereTold files
       (λ folder. given.status ≢ 3 → given.status ≢ 4 → given.status ≢ 5 → given ≡ task_answer texts bounds folder task)
   pub quiet : WhereTold files
-      (λ folder. ¬ Rose before.faults now.faults → given.status ≢ 4 → given.status ≢ 5
+      (λ folder. ¬ Faulted before.faults now.faults → given.status ≢ 4 → given.status ≢ 5
       → given ≡ task_answer texts bounds folder task)
   pub front : WhereTold files
       (λ folder. (count : ℕ) × (given.output ≡ take count (task_answer texts bounds folder task).output))
@@ -130,12 +130,12 @@ pub is_delivered : (texts : Texts) (bounds : Bounds) (task : Option Task) (store
 is_delivered texts bounds task store stored out_old out_mid out_new err_old err_new status rest ran delivery =
     let whole : append_known out_mid.written rest.output ≡ append_known out_old.written (ran.early ++ rest.output) =
     ap (λ o. append_known o rest.output) ran.written ∙ append_further out_old.written ran.early rest.output in
-    let later : Rose out_mid.faults out_new.faults → Rose out_old.faults out_new.faults =
+    let later : Faulted out_mid.faults out_new.faults → Faulted out_old.faults out_new.faults =
     λ rose. elim (eqb_tells rest.status 4) [
       | inl four ↦ let early = ran.unwritten four.1 in omega (arith, early, delivery.out_faults)
-      | inr other ↦ subst (λ n. Rose n out_new.faults) (ran.sound other.1) rose
+      | inr other ↦ subst (λ n. Faulted n out_new.faults) (ran.sound other.1) rose
     ] in
-    let unwritten : rest.status ≡ 4 → Rose out_old.faults out_new.faults =
+    let unwritten : rest.status ≡ 4 → Faulted out_old.faults out_new.faults =
     λ four. let early = ran.unwritten four in omega (arith, early, delivery.out_faults) in
     record {
       whole = λ four.
@@ -173,11 +173,11 @@ module _ {texts : Texts} {bounds : Bounds} {task : Option Task} {before now : Ou
   told_by four = (e.delivered.whole four).status_is
 
   -- with sound outputs the status isn't 4
-  pub wrote : ¬ OutRose before now → ¬ ErrRose before now → status ≢ 4
+  pub wrote : ¬ OutFaulted before now → ¬ ErrFaulted before now → status ≢ 4
   wrote out_quiet err_quiet = λ four. err_quiet (e.delivered.write four out_quiet)
 
   -- the answer that the words and the files define was delivered
-  pub defined_by : (folder : Folder) → before.store.files ≡ Some folder → ¬ StoreRose before now → status ≢ 4
+  pub defined_by : (folder : Folder) → before.store.files ≡ Some folder → ¬ StoreFaulted before now → status ≢ 4
       → status ≢ 5 → given ≡ task_answer texts bounds folder task
   defined_by folder known quiet four five =
       facts.quiet folder known quiet (λ is. four (told_by four ∙ is)) (λ is. five (told_by four ∙ is))

@@ -1,7 +1,7 @@
 -- A run that ended because a file is absent, or couldn't be opened or read: what its message says.
 use Rattle.std.proofs.Common.{◌≡◌, ◌≢◌, ℕ, suc, ◌+◌, true, false, List, ◌∷◌, Option, Some, None, IsSome, ap, subst, ◌∙◌}
 use Rattle.std.proofs.Common.{inl, inr, arith}
-use Rattle.hp_outside.specs.Faults.{Rose}
+use Rattle.hp_outside.specs.Faults.{Faulted}
 use Rattle.hp_outside.specs.FaultTexts.{line_text, open_text}
 use Rattle.hp_outside.specs.declared.span.LineFault.TheVariants as reading
 use Rattle.hp_outside.specs.declared.store.OpenFault.TheVariants as opening
@@ -17,7 +17,7 @@ module _ (texts : Texts) (files : Option Folder) (name wanted : List ℕ) (names
   -- the first file is absent
   pub absent_not_read : name ≡ wanted → given.message ≡ at_file texts wanted (open_text opening.Absent)
       → Opened before now false
-      → WhereTold files (λ folder. file_of folder wanted ≡ None) → (files ≡ None → Rose before.faults now.faults)
+      → WhereTold files (λ folder. file_of folder wanted ≡ None) → (files ≡ None → Faulted before.faults now.faults)
       → NotRead texts files (name ∷ names) before now given
   absent_not_read named message opened absent rose = record {
     place = 0;
@@ -39,7 +39,7 @@ module _ (texts : Texts) (files : Option Folder) (name wanted : List ℕ) (names
   -- it couldn't be opened
   pub closed_not_read : name ≡ wanted → given.message ≡ at_file texts wanted (open_text opening.Failed)
       → Opened before now false
-      → WhereTold files (λ folder. file_of folder wanted ≢ None) → Rose before.faults now.faults
+      → WhereTold files (λ folder. file_of folder wanted ≢ None) → Faulted before.faults now.faults
       → NotRead texts files (name ∷ names) before now given
   closed_not_read named message opened there rose = record {
     place = 0;
@@ -57,7 +57,7 @@ module _ (texts : Texts) (files : Option Folder) (name wanted : List ℕ) (names
   -- it couldn't be read
   pub unread_not_read : name ≡ wanted → given.message ≡ at_file texts wanted (line_text reading.ReadFailed)
       → Opened before now true
-      → WhereTold files (λ folder. file_of folder wanted ≢ None) → Rose before.faults now.faults
+      → WhereTold files (λ folder. file_of folder wanted ≢ None) → Faulted before.faults now.faults
       → NotRead texts files (name ∷ names) before now given
   unread_not_read named message opened there rose = record {
     place = 0;
@@ -89,6 +89,6 @@ not_read_behind texts files name names before mid now given answer behind opens 
   untold =
       λ untold closed. elim (behind.untold untold closed)
       [ inl absent ↦ inl (message ∙ absent) | inr failed ↦ inr (message ∙ failed) ];
-  cause_told = λ folder known some. subst (λ n. Rose n now.faults) faults (behind.cause_told folder known some);
-  cause_untold = λ untold. subst (λ n. Rose n now.faults) faults (behind.cause_untold untold);
+  cause_told = λ folder known some. subst (λ n. Faulted n now.faults) faults (behind.cause_told folder known some);
+  cause_untold = λ untold. subst (λ n. Faulted n now.faults) faults (behind.cause_untold untold);
 }

@@ -2,7 +2,7 @@
 use Rattle.std.proofs.Common.{◌≡◌, ◌≢◌, ◌⊎◌, ℕ, List, [], ◌∷◌, Option, Result, Ok, Err, IsErrAnd, refl, ap, sym, subst}
 use Rattle.std.proofs.Common.{◌∙◌, inl, inr, arith}
 use Rattle.std.proofs.lemmas.Bool.Decides.{eqb_tells}
-use Rattle.hp_outside.specs.Faults.{Rose}
+use Rattle.hp_outside.specs.Faults.{Faulted}
 use Rattle.hp_outside.specs.Folder.{Folder}
 use Rattle.command_frame.specs.declared.context.RunContext.{RunContext}
 use Rattle.command_frame.specs.declared.halt.Halt.{Halt}
@@ -121,7 +121,7 @@ runs_on {text = text} context name names report next before mid now old middle n
           middle.written new.written (answer_of text texts result))
           read.files (run.ran name));
       files = run.files ∙ read.files;
-      unwritten = λ four. subst (λ n. Rose n new.faults) same (run.unwritten four);
+      unwritten = λ four. subst (λ n. Faulted n new.faults) same (run.unwritten four);
       sound = λ other. run.sound other ∙ same;
     }
 

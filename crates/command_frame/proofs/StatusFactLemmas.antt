@@ -1,7 +1,7 @@
 -- The facts of a run that came to one status or another.
 use Rattle.std.proofs.Common.{◌≡◌, ◌⊎◌, ℕ, ◌+◌, ◌≤◌, List, [], length, take, take_all, Option, refl, ap, sym, ◌∙◌, inl}
 use Rattle.std.proofs.Common.{inr, arith}
-use Rattle.hp_outside.specs.Faults.{Rose}
+use Rattle.hp_outside.specs.Faults.{Faulted}
 use Rattle.hp_outside.specs.Folder.{Folder}
 use Rattle.hp_outside.specs.Taken.{WhereTold}
 use Rattle.command_frame.specs.declared.fault.FaultStatus.{FaultStatus}
@@ -73,7 +73,7 @@ module _ (texts : Texts) (bounds : Bounds) (files : Option Folder) (last : List 
 
   -- a file is absent, or a call on it failed
   pub unreadable_facts : given.status ≡ 3 → NotRead texts files names before now given
-      → WhereTold files (λ folder. ¬ Rose before.faults now.faults → given ≡ plan_answer texts bounds folder last plan)
+      → WhereTold files (λ folder. ¬ Faulted before.faults now.faults → given ≡ plan_answer texts bounds folder last plan)
       → HasFront texts bounds files last plan given → (IsSilent plan → given.output ≡ []) → (names ≡ [] → now ≡ before)
       → before.opens ≤ now.opens → now.opens ≤ before.opens + length names
       → RunFacts texts bounds files last names plan before now given

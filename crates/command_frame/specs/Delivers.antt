@@ -3,7 +3,7 @@
 use Rattle.std.specs.Prelude.{◌≡◌, ◌≢◌, ◌≤◌, ℕ, List, Some, OnErr, OnOk, Result}
 use Rattle.std.specs.Io.KnownBytes.{append_known}
 use Rattle.hp_outside.specs.declared.sink.Sink as sink
-use Rattle.hp_outside.specs.Faults.{Rose}
+use Rattle.hp_outside.specs.Faults.{Faulted}
 use Rattle.hp_outside.specs.Taken.{GainsFront}
 use Rattle.command_frame.specs.declared.halt.Halt.{Halt}
 use Rattle.command_frame.specs.declared.texts.ProgramTexts.{ProgramTexts}
@@ -18,16 +18,16 @@ pub record DeliversTo (write_failed : List ℕ) (given : Answer) (status : ℕ)
   -- whole, unless the status is 4
   pub whole : status ≢ 4
       → Delivered given status out_old.written out_new.written err_old.written err_new.written
-  pub fronts : GainsFronts write_failed given (Rose out_old.faults out_new.faults)
-      (Rose err_old.faults err_new.faults)
+  pub fronts : GainsFronts write_failed given (Faulted out_old.faults out_new.faults)
+      (Faulted err_old.faults err_new.faults)
       out_old.written out_new.written err_old.written err_new.written
   pub own_message : (bytes : List ℕ) → out_old.written ≡ Some bytes
       → out_new.written ≡ append_known out_old.written given.output
       → GainsFront err_old.written err_new.written given.message
   -- status 4 is the answer's, or an output failed
   pub kept : given.status ≡ 4 → status ≡ 4
-  pub cause : status ≡ 4 → given.status ≢ 4 → ¬ Rose out_old.faults out_new.faults
-      → Rose err_old.faults err_new.faults
+  pub cause : status ≡ 4 → given.status ≢ 4 → ¬ Faulted out_old.faults out_new.faults
+      → Faulted err_old.faults err_new.faults
   pub out_sound : status ≢ 4 → out_new.faults ≡ out_old.faults
   pub err_sound : status ≢ 4 → err_new.faults ≡ err_old.faults
   pub out_faults : out_old.faults ≤ out_new.faults
@@ -60,7 +60,7 @@ pub record WritesBoth {O E F : Type 0} (o : sink.Ghosts O) (e : sink.Ghosts E)
   pub message_whole : OnOk result (e.written err_new ≡ append_known (e.written err_old) message)
   pub fronts : (status : ℕ)
       → GainsFronts write_failed (record { output = output; message = message; status = status })
-      (Rose (o.faults out_old) (o.faults out_new)) (Rose (e.faults err_old) (e.faults err_new))
+      (Faulted (o.faults out_old) (o.faults out_new)) (Faulted (e.faults err_old) (e.faults err_new))
       (o.written out_old) (o.written out_new) (e.written err_old) (e.written err_new)
   pub own_message : (bytes : List ℕ) → o.written out_old ≡ Some bytes
       → o.written out_new ≡ append_known (o.written out_old) output
@@ -69,5 +69,5 @@ pub record WritesBoth {O E F : Type 0} (o : sink.Ghosts O) (e : sink.Ghosts E)
   pub err_faults : e.faults err_old ≤ e.faults err_new
   pub out_sound : OnOk result (o.faults out_new ≡ o.faults out_old)
   pub err_sound : OnOk result (e.faults err_new ≡ e.faults err_old)
-  pub cause : OnErr result (¬ Rose (o.faults out_old) (o.faults out_new)
-      → Rose (e.faults err_old) (e.faults err_new))
+  pub cause : OnErr result (¬ Faulted (o.faults out_old) (o.faults out_new)
+      → Faulted (e.faults err_old) (e.faults err_new))

@@ -2,7 +2,7 @@
 -- a file that is read whole: no fault of it is told where a read failed, and any but that it is too
 -- long only where its end was read.
 use Rattle.std.specs.Prelude.{◌≡◌, ◌+◌, ℕ, true, false, List, [], Option, Some, None}
-use Rattle.hp_outside.specs.Faults.{Rose}
+use Rattle.hp_outside.specs.Faults.{Faulted}
 use Rattle.hp_outside.specs.Folder.{Folder, file_of}
 use Rattle.hp_outside.specs.Taken.{WhereTold}
 use Rattle.command_frame.specs.FirstFault.{Bounds, input_too_long}
@@ -45,9 +45,9 @@ EndsWhere bounds None _ = ⊥
 abbrev pub DocumentCalls : Option Folder → Moment → Moment → DocumentEnd → Type 0
 DocumentCalls files before now Unopened = now ≡ before
 DocumentCalls files before now Absent = Opened before now false
-    × (files ≡ None → Rose before.faults now.faults)
-DocumentCalls files before now CannotOpen = Opened before now false × Rose before.faults now.faults
-DocumentCalls files before now CannotRead = Opened before now true × Rose before.faults now.faults
+    × (files ≡ None → Faulted before.faults now.faults)
+DocumentCalls files before now CannotOpen = Opened before now false × Faulted before.faults now.faults
+DocumentCalls files before now CannotRead = Opened before now true × Faulted before.faults now.faults
 DocumentCalls files before now TooLong = Opened before now true × (now.faults ≡ before.faults)
 DocumentCalls files before now Wanting = now.opens ≡ before.opens + 1
 DocumentCalls files before now (Whole taken) = Opened before now true × (now.faults ≡ before.faults)

@@ -1,7 +1,7 @@
 -- Whatever a store tells and does, how the reading of a file by lines may end; a read that failed
 -- is told only where no line that was taken whole before it has a fault.
 use Rattle.std.specs.Prelude.{◌≡◌, ◌≤◌, ◌+◌, ◌-◌, ℕ, true, false, List, [], ◌++◌, length, take, Option, Some, None}
-use Rattle.hp_outside.specs.Faults.{Rose}
+use Rattle.hp_outside.specs.Faults.{Faulted}
 use Rattle.hp_outside.specs.Folder.{Folder, file_of}
 use Rattle.hp_outside.specs.Lines.{lines_of}
 use Rattle.hp_outside.specs.NextLine.{IsUndecided}
@@ -88,9 +88,9 @@ EndsIn bounds report None left _ = ⊥
 abbrev pub Calls : Option Folder → Moment → Moment → FileEnd → Type 0
 Calls files before now Unopened = now ≡ before
 Calls files before now Absent = Opened before now false
-    × (files ≡ None → Rose before.faults now.faults)
-Calls files before now CannotOpen = Opened before now false × Rose before.faults now.faults
-Calls files before now (CannotRead taken) = Opened before now true × Rose before.faults now.faults
+    × (files ≡ None → Faulted before.faults now.faults)
+Calls files before now CannotOpen = Opened before now false × Faulted before.faults now.faults
+Calls files before now (CannotRead taken) = Opened before now true × Faulted before.faults now.faults
 Calls files before now (Refused taken number told) = Opened before now true
     × (now.faults ≡ before.faults)
 Calls files before now (Wanting taken) = now.opens ≡ before.opens + 1

@@ -3,7 +3,7 @@
 use Rattle.std.specs.Prelude.{ℕ}
 use Rattle.hp_outside.specs.declared.store.Store as store
 use Rattle.hp_outside.specs.declared.sink.Sink as sink
-use Rattle.hp_outside.specs.Faults.{Rose}
+use Rattle.hp_outside.specs.Faults.{Faulted}
 use Rattle.command_frame.specs.Answer.{Answer}
 use Rattle.command_frame.specs.Delivery.{Delivered}
 use Rattle.command_frame.specs.RunsTo.{Shown, Taken, shown, taken}
@@ -18,14 +18,14 @@ abbrev pub outside : {S O E : Type 0} → store.Ghosts S → sink.Ghosts O → s
 outside s o e store out err = record { store = shown s store; out = taken o out; err = taken e err }
 
 -- a call failed
-abbrev pub StoreRose : Outside → Outside → Type 0
-StoreRose before now = Rose before.store.moment.faults now.store.moment.faults
+abbrev pub StoreFaulted : Outside → Outside → Type 0
+StoreFaulted before now = Faulted before.store.moment.faults now.store.moment.faults
 
-abbrev pub OutRose : Outside → Outside → Type 0
-OutRose before now = Rose before.out.faults now.out.faults
+abbrev pub OutFaulted : Outside → Outside → Type 0
+OutFaulted before now = Faulted before.out.faults now.out.faults
 
-abbrev pub ErrRose : Outside → Outside → Type 0
-ErrRose before now = Rose before.err.faults now.err.faults
+abbrev pub ErrFaulted : Outside → Outside → Type 0
+ErrFaulted before now = Faulted before.err.faults now.err.faults
 
 -- an answer was delivered whole
 abbrev pub Gives : Outside → Outside → Answer → ℕ → Type 0

@@ -7,7 +7,7 @@ use Rattle.std.specs.Io.KnownBytes.{append_known}
 use Rattle.hp_outside.specs.Taken.{GainsFront, WhereTold}
 use Rattle.command_frame.specs.Answer.{Answer, memory_answer, usage_answer}
 use Rattle.command_frame.specs.Delivery.{GainsFronts}
-use Rattle.command_frame.specs.Outside.{ErrRose, Gives, OutRose, Outside}
+use Rattle.command_frame.specs.Outside.{ErrFaulted, Gives, OutFaulted, Outside}
 use Rattle.command_frame.specs.RunFacts.{NotRead}
 use Rattle.command_frame.specs.Texts.{Texts}
 
@@ -16,14 +16,14 @@ use Rattle.command_frame.specs.Texts.{Texts}
 pub record IsDelivered (texts : Texts) (given : Answer) (status : ℕ) (before now : Outside) : Type
     0 where
   pub whole : status ≢ 4 → Gives before now given status
-  pub fronts : GainsFronts texts.write_failed given (OutRose before now) (ErrRose before now)
+  pub fronts : GainsFronts texts.write_failed given (OutFaulted before now) (ErrFaulted before now)
       before.out.written now.out.written before.err.written now.err.written
   pub own_message : (bytes : List ℕ) → before.out.written ≡ Some bytes
       → now.out.written ≡ append_known before.out.written given.output
       → GainsFront before.err.written now.err.written given.message
-  pub unwritten : given.status ≡ 4 → OutRose before now
+  pub unwritten : given.status ≡ 4 → OutFaulted before now
   -- Status 4: only where an output failed.
-  pub write : status ≡ 4 → ¬ OutRose before now → ErrRose before now
+  pub write : status ≡ 4 → ¬ OutFaulted before now → ErrFaulted before now
   -- A call of an output that failed is not passed over in silence.
   pub out_faults : status ≢ 4 → now.out.faults ≡ before.out.faults
   pub err_faults : status ≢ 4 → now.err.faults ≡ before.err.faults

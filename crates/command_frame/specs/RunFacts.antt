@@ -2,7 +2,7 @@
 -- message names, what stands on the output.
 use Rattle.std.specs.Prelude.{◌≡◌, ◌≢◌, ◌≤◌, ◌+◌, ◌⊎◌, ℕ, true, false, List, [], length, slice_get, take, Option, Some}
 use Rattle.std.specs.Prelude.{None, IsSome}
-use Rattle.hp_outside.specs.Faults.{Rose}
+use Rattle.hp_outside.specs.Faults.{Faulted}
 use Rattle.hp_outside.specs.FaultTexts.{line_text, open_text}
 use Rattle.hp_outside.specs.declared.span.LineFault.TheVariants as reading
 use Rattle.hp_outside.specs.declared.store.OpenFault.TheVariants as opening
@@ -35,8 +35,8 @@ pub record NotRead (texts : Texts) (files : Option Folder) (names : List (List �
       → (given.message ≡ at_file texts name (open_text opening.Absent))
       ⊎ (given.message ≡ at_file texts name (open_text opening.Failed))
   pub cause_told : WhereTold files
-      (λ folder. IsSome (file_of folder name) → Rose before.faults now.faults)
-  pub cause_untold : files ≡ None → Rose before.faults now.faults
+      (λ folder. IsSome (file_of folder name) → Faulted before.faults now.faults)
+  pub cause_untold : files ≡ None → Faulted before.faults now.faults
 
 pub record RunFacts (texts : Texts) (bounds : Bounds) (files : Option Folder) (last : List ℕ)
     (names : List (List ℕ)) (plan : Plan) (before now : Moment) (given : Answer) : Type 0 where
@@ -45,7 +45,7 @@ pub record RunFacts (texts : Texts) (bounds : Bounds) (files : Option Folder) (l
       (λ folder. given.status ≢ 3 → given.status ≢ 4 → given.status ≢ 5
       → given ≡ plan_answer texts bounds folder last plan)
   pub quiet : WhereTold files
-      (λ folder. ¬ Rose before.faults now.faults → given.status ≢ 4 → given.status ≢ 5
+      (λ folder. ¬ Faulted before.faults now.faults → given.status ≢ 4 → given.status ≢ 5
       → given ≡ plan_answer texts bounds folder last plan)
   -- whatever failed, the output is a front of the plan's
   pub front : WhereTold files

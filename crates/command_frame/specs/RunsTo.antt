@@ -5,7 +5,7 @@ use Rattle.std.specs.Prelude.{◌≡◌, ◌≢◌, ℕ, List, [], ◌∷◌, Op
 use Rattle.std.specs.Io.KnownBytes.{append_known}
 use Rattle.hp_outside.specs.declared.store.Store as store
 use Rattle.hp_outside.specs.declared.sink.Sink as sink
-use Rattle.hp_outside.specs.Faults.{Rose}
+use Rattle.hp_outside.specs.Faults.{Faulted}
 use Rattle.hp_outside.specs.Folder.{Folder}
 use Rattle.command_frame.specs.declared.context.RunContext.{RunContext}
 use Rattle.command_frame.specs.declared.halt.Halt.{Halt}
@@ -67,7 +67,7 @@ pub record ReadsTo (context : RunContext) (name : List ℕ) (report : Report)
   pub halts : HaltsAt (texts_of context.texts) name has_taken end result
   pub written : new.written ≡ append_known old.written (end_output report end)
   pub files : now.files ≡ before.files
-  pub unwritten : status_of result ≡ 4 → Rose old.faults new.faults
+  pub unwritten : status_of result ≡ 4 → Faulted old.faults new.faults
   pub sound : status_of result ≢ 4 → new.faults ≡ old.faults
 
 -- a named file was read as a whole
@@ -89,7 +89,7 @@ pub record RunsReady {R : Type 0} (bytes : R → List ℕ) (context : RunContext
       before.moment now.moment old.written new.written
       (answer_of bytes (texts_of context.texts) result)
   pub files : now.files ≡ before.files
-  pub unwritten : status_of result ≡ 4 → Rose old.faults new.faults
+  pub unwritten : status_of result ≡ 4 → Faulted old.faults new.faults
   pub sound : status_of result ≢ 4 → new.faults ≡ old.faults
 
 -- the same, and the text is held

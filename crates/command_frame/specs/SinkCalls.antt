@@ -2,7 +2,7 @@
 use Rattle.std.specs.Prelude.{◌≡◌, ◌++◌, ℕ, List, OnErr, Result, Vec}
 use Rattle.std.specs.Io.KnownBytes.{append_known}
 use Rattle.hp_outside.specs.declared.sink.Sink as sink
-use Rattle.hp_outside.specs.Faults.{Rose}
+use Rattle.hp_outside.specs.Faults.{Faulted}
 use Rattle.hp_outside.specs.Taken.{GainsCutFront}
 
 -- no call failed
@@ -11,7 +11,7 @@ SameFaults o old new = o.faults new ≡ o.faults old
 
 -- a call failed
 abbrev pub HasFailed : {O : Type 0} → sink.Ghosts O → O → O → Type 0
-HasFailed o old new = Rose (o.faults old) (o.faults new)
+HasFailed o old new = Faulted (o.faults old) (o.faults new)
 
 -- these bytes were taken whole
 abbrev pub Writes : {O : Type 0} → sink.Ghosts O → O → O → List ℕ → Type 0

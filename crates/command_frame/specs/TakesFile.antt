@@ -2,7 +2,7 @@
 use Rattle.std.specs.Prelude.{◌≡◌, ◌≢◌, ◌^◌, ◌≤◌, ℕ, List, [], Result, Err, IsTrue, OnOk, Vec}
 use Rattle.hp_outside.specs.declared.store.Store as store
 use Rattle.hp_outside.specs.declared.sink.Sink as sink
-use Rattle.hp_outside.specs.Faults.{Rose}
+use Rattle.hp_outside.specs.Faults.{Faulted}
 use Rattle.hp_outside.specs.declared.limits.Limits.{Limits}
 use Rattle.hp_outside.specs.LineReaderState.{LineReaderState}
 use Rattle.hp_outside.specs.NewReader.{IsNewReader}
@@ -42,10 +42,10 @@ pub record TakesFile {S O F : Type 0} (s : store.Ghosts S) (o : sink.Ghosts O)
   pub current : s.current now ≡ s.current before
   pub opens : s.opens now ≡ s.opens before
   pub ended : OnOk result (WhereTold (s.left now) (λ left. left ≡ []))
-  pub failed : result ≡ Err ReadFailed → Rose (s.faults before) (s.faults now)
+  pub failed : result ≡ Err ReadFailed → Faulted (s.faults before) (s.faults now)
   pub sound_reads : result ≢ Err ReadFailed → result ≢ Err WriteFailed
       → s.faults now ≡ s.faults before
-  pub write_failed : result ≡ Err WriteFailed → Rose (o.faults old) (o.faults new)
+  pub write_failed : result ≡ Err WriteFailed → Faulted (o.faults old) (o.faults new)
   pub sound_writes : result ≢ Err WriteFailed → o.faults new ≡ o.faults old
 
 -- what the file said, and what the output got of it but for what is kept back: with the lines that were taken and, where a

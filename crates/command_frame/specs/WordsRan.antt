@@ -3,7 +3,7 @@
 -- of the plan.
 use Rattle.std.specs.Prelude.{◌≡◌, ◌≢◌, ◌⊎◌, ℕ, List, [], Option, Some, None}
 use Rattle.std.specs.Io.KnownBytes.{append_known}
-use Rattle.hp_outside.specs.Faults.{Rose}
+use Rattle.hp_outside.specs.Faults.{Faulted}
 use Rattle.hp_outside.specs.Folder.{Folder}
 use Rattle.command_frame.specs.Answer.{Answer, after, memory_answer, usage_answer}
 use Rattle.command_frame.specs.FirstFault.{Bounds}
@@ -36,5 +36,5 @@ pub record WordsRunTo (texts : Texts) (bounds : Bounds) (task : Option Task) (be
   pub written : new.written ≡ append_known old.written early
   pub ran : WordsRan texts bounds before.files task before.moment now.moment (after early answer)
   pub files : now.files ≡ before.files
-  pub unwritten : answer.status ≡ 4 → Rose old.faults new.faults
+  pub unwritten : answer.status ≡ 4 → Faulted old.faults new.faults
   pub sound : answer.status ≢ 4 → new.faults ≡ old.faults

@@ -12,7 +12,7 @@ pub struct Batch {
 }
 
 /// Takes lines at the front of the bytes, as long as the taker takes them, and appends what they give to standard output.
-// The loop stands apart, and has all registers there. The first line is taken here, so that none is called for in vain.
+/// The loop stands apart, and has all registers there. The first line is taken here, so that none is called for in vain.
 #[inline(always)]
 pub fn take_batch<T: LineTaker>(taker: &mut T, ready: &[u8], output: &mut Vec<u8>) -> Batch
     requires sound { T.is_sound taker.old }

@@ -19,6 +19,6 @@ pub trait LineReport: LineTaker {
             (Self.has_taken self) result };
 
     /// Lets it go, where not all lines were taken.
-    // A method, since a value whose type names a closure can't be let go as one of a type parameter.
+    /// A method, since a value whose type names a closure can't be let go as one of a type parameter.
     fn close(self);
 }

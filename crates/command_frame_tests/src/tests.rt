@@ -189,7 +189,7 @@ fn assert_one_piece(
     Ok(())
 }
 
-// Output of 70,000 bytes is written in two pieces, and in a third the rest.
+/// Output of 70,000 bytes is written in two pieces, and in a third the rest.
 #[test]
 fn output_in_pieces(rt: HostRuntime) -> Result<(), Fail> {
     let alloc = rt.alloc();

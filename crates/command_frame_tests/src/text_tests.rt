@@ -33,7 +33,7 @@ fn assert_rest(
     Ok(())
 }
 
-// A piece of 65,540 bytes is written, and 4,460 are the rest. The second write fails.
+/// A piece of 65,540 bytes is written, and 4,460 are the rest. The second write fails.
 #[test]
 fn text_in_pieces(rt: HostRuntime) -> Result<(), Fail> {
     let alloc = rt.alloc();

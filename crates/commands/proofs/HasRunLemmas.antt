@@ -4,7 +4,7 @@ use Rattle.std.specs.Io.KnownBytes.{append_known}
 use Rattle.hp_outside.specs.Folder.{Folder}
 use Rattle.command_frame.specs.Answer.{Answer}
 use Rattle.command_frame.specs.FirstFault.{Bounds}
-use Rattle.command_frame.specs.Outside.{Gives, Outside, StoreRose}
+use Rattle.command_frame.specs.Outside.{Gives, Outside, StoreFaulted}
 use Rattle.command_frame.proofs.Laws.{TaskEnded, append_nothing, defined_by, front_by, gives_as, judged_by, run_ends}
 use Rattle.command_frame.proofs.Laws.{silent_by, task_quiet, to_end_by, told_by, unreached_by, wrote}
 use Rattle.commands.specs.Answer.{answer}
@@ -29,7 +29,7 @@ pub has_run : (laws : AreLaws) (bounds : Bounds) (words : List (List ℕ)) (befo
     → (knows_first words ≡ false → given.status ≢ 5)
     → HasRun bounds words before now status
 has_run laws bounds words before now status given small e unknown =
-    let defined : (folder : Folder) → before.store.files ≡ Some folder → ¬ StoreRose before now → status ≢ 4
+    let defined : (folder : Folder) → before.store.files ≡ Some folder → ¬ StoreFaulted before now → status ≢ 4
     → status ≢ 5 → Gives before now (answer words bounds folder) status =
     λ folder known quiet four five. gives_as before now status (defined_by e folder known quiet four five)
     (e.delivered.whole four) in

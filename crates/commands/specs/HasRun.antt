@@ -8,7 +8,7 @@ use Rattle.hp_outside.specs.Folder.{Folder}
 use Rattle.hp_outside.specs.Taken.{GainsFront}
 use Rattle.command_frame.specs.Answer.{Answer}
 use Rattle.command_frame.specs.FirstFault.{Bounds}
-use Rattle.command_frame.specs.Outside.{ErrRose, Gives, OutRose, Outside, StoreRose}
+use Rattle.command_frame.specs.Outside.{ErrFaulted, Gives, OutFaulted, Outside, StoreFaulted}
 use Rattle.command_frame.specs.Reached.{IsReached}
 use Rattle.command_frame.specs.ReadToEnd.{AreReadToEnd}
 use Rattle.command_frame.specs.RunEnds.{IsDelivered, RunEnds}
@@ -32,12 +32,12 @@ pub record HasRun (bounds : Bounds) (words : List (List ℕ)) (before now : Outs
   -- The headline: over a store that tells its files, with no failed call and memory not wanting, output, message and
   -- status are the defined ones.
   pub defined : (folder : Folder) → before.store.files ≡ Some folder
-      → ¬ StoreRose before now → ¬ OutRose before now → ¬ ErrRose before now → status ≢ 5
+      → ¬ StoreFaulted before now → ¬ OutFaulted before now → ¬ ErrFaulted before now → status ≢ 5
       → Gives before now (answer words bounds folder) status
   -- Completeness: where the defined answer has no fault, it is given.
   pub complete : (folder : Folder) → before.store.files ≡ Some folder
       → (answer words bounds folder).status ≡ 0
-      → ¬ StoreRose before now → ¬ OutRose before now → ¬ ErrRose before now → status ≢ 5
+      → ¬ StoreFaulted before now → ¬ OutFaulted before now → ¬ ErrFaulted before now → status ≢ 5
       → (status ≡ 0) × (now.out.written
       ≡ append_known before.out.written (answer words bounds folder).output)
       × (now.err.written ≡ before.err.written)
@@ -49,9 +49,9 @@ pub record HasRun (bounds : Bounds) (words : List (List ℕ)) (before now : Outs
   pub judged : (folder : Folder) → before.store.files ≡ Some folder → status ≢ 3 → status ≢ 4
       → status ≢ 5
       → Gives before now (answer words bounds folder) status
-  pub malformed : (folder : Folder) → before.store.files ≡ Some folder → ¬ StoreRose before now
+  pub malformed : (folder : Folder) → before.store.files ≡ Some folder → ¬ StoreFaulted before now
       → (answer words bounds folder).status ≡ 1 → status ≢ 4 → status ≢ 5 → status ≡ 1
-  pub past_limit : (folder : Folder) → before.store.files ≡ Some folder → ¬ StoreRose before now
+  pub past_limit : (folder : Folder) → before.store.files ≡ Some folder → ¬ StoreFaulted before now
       → (answer words bounds folder).status ≡ 6 → status ≢ 4 → status ≢ 5 → status ≡ 6
   -- The same where a call on the store failed, once the first fault was reached: once the bytes that show it were taken.
   pub reached : (folder : Folder) → before.store.files ≡ Some folder

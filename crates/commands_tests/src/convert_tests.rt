@@ -104,7 +104,7 @@ heapsuite: t: not JSON
 const PLACES: &str =
     "{\"dhatFileVersion\":2,\"mode\":\"copy\",\"verb\":\"Copied\",\"bklt\":false,\"bkacc\":false,\"tu\":\"instrs\",\"Mtu\":\"Minstr\",\"cmd\":\"\",\"pid\":7,\"te\":9,\"ftbl\":[\"[root]\",\"a\",\"b;c\",\" c\\n\",\"\"],\"pps\":[{\"tb\":0,\"tbk\":0,\"fs\":[2,1]},{\"tb\":40,\"tbk\":4611686018427387904,\"fs\":[1]},{\"tb\":0,\"tbk\":1,\"fs\":[3]},{\"tb\":3,\"tbk\":0,\"fs\":[2,1]},{\"tb\":2,\"tbk\":0,\"fs\":[]},{\"tb\":10,\"tbk\":0,\"fs\":[1]}]}\n";
 
-// Lists come by the first point that has one and a figure other than 0.
+/// Lists come by the first point that has one and a figure other than 0.
 const OF_PLACES: &str = "$ convert t
 a 50
 a;b:c 3
@@ -158,8 +158,8 @@ heapsuite: t:47: bad snapshot
 [1]
 ";
 
-// A detailed snapshot, two peaks, a tree whose children have more bytes than their line, labels that are shown, and bytes that sum to
-// more than 2^62.
+/// A detailed snapshot, two peaks, a tree whose children have more bytes than their line, labels that are shown, and bytes that sum to
+/// more than 2^62.
 const TREES: &str = "> n2: 9000 (heap allocation functions) malloc/new/new[], --alloc-fns, etc.
 >  n0: 8960 0x4005BB: main (a.c:10)
 >  n0: 40 in 3 places, all below massif's threshold (1.00%)
@@ -265,7 +265,7 @@ mem_stacks_B=0
 heap_tree=empty
 ";
 
-// Of the last peak the root keeps 13, the two lines `a` 15 and 7, and `d` nothing.
+/// Of the last peak the root keeps 13, the two lines `a` 15 and 7, and `d` nothing.
 const OF_PEAKS: &str = "$ convert --from=massif t
 (no stack) 13
 a 22

@@ -152,13 +152,13 @@ err 1: nothing [4]
 err 2: nothing [4] its message
 ";
 
-// Each output is written at once and then flushed.
+/// Each output is written at once and then flushed.
 const OF_A_TEXT: &str = "out 1: nothing [4] heapsuite: write failed
 out 2: all [4]
 err 1: all [4]
 ";
 
-// Each file is read in one piece, and then its end is found.
+/// Each file is read in one piece, and then its end is found.
 const OF_A_TRACE: &str = "store 1: nothing [3] heapsuite: e: cannot open
 store 2: nothing [3] heapsuite: e: cannot read
 store 3: nothing [3] heapsuite: e: cannot read
@@ -186,8 +186,8 @@ out 2: all [4]
 err 1: all [4]
 ";
 
-// Reads give 45 bytes at most: all of the symbols at once, and the raw trace in two pieces, of which the first has four whole
-// lines, which give seven.
+/// Reads give 45 bytes at most: all of the symbols at once, and the raw trace in two pieces, of which the first has four whole
+/// lines, which give seven.
 const OF_AN_INTERPRETATION: &str = "store 1: nothing [3] heapsuite: s: cannot open
 store 2: nothing [3] heapsuite: s: cannot read
 store 3: nothing [3] heapsuite: s: cannot read

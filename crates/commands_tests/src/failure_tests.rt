@@ -3,21 +3,21 @@
 
 use crate::transcript::{SOUND, Setting, TWO_SIZES, plays};
 
-// Standard output has room for 7 bytes.
+/// Standard output has room for 7 bytes.
 const FULL_OUTPUT: &str = "$ summary t
 events:heapsuite: write failed
 [4]
 ";
 
-// Standard error takes 9 bytes of the usage text, for words that aren't taken and for none.
+/// Standard error takes 9 bytes of the usage text, for words that aren't taken and for none.
 const FULL_MESSAGES: &str = "$ summary
 usage: he[4]
 $ 
 usage: he[4]
 ";
 
-// All bytes are read, and the next read fails: a fault of a line that was taken with its line feed, or of a line's length, is
-// told in its stead.
+/// All bytes are read, and the next read fails: a fault of a line that was taken with its line feed, or of a line's length, is
+/// told in its stead.
 const FAILED_READS: &str = "> v 10500 2
 > + 9
 $ summary t
@@ -34,7 +34,7 @@ heapsuite: t: cannot read
 [3]
 ";
 
-// A trace of 42 bytes, of which the second read, behind 32, fails.
+/// A trace of 42 bytes, of which the second read, behind 32, fails.
 const FAILED_SECOND_READ: &str = "$ summary t
 heapsuite: t: cannot read
 [3]

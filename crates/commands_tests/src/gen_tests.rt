@@ -2,8 +2,8 @@
 
 use crate::transcript::{Transcript, play_all};
 
-// Of the states, bits 16 to 30 are 16838, 5758, 10113, 17515, 31051, 5627, 23010, 7419, 16212 and 4086; those behind the greatest
-// seed 15930 and 24889.
+/// Of the states, bits 16 to 30 are 16838, 5758, 10113, 17515, 31051, 5627, 23010, 7419, 16212 and 4086; those behind the greatest
+/// seed 15930 and 24889.
 const GENERATED: &str = "$ gen --events=0 --stacks=1
 v 10500 2
 X gen

@@ -69,7 +69,7 @@ heapsuite: e:1: bad symbol line
 [1]
 ";
 
-// Each line alone says no symbol. Then lines meet a symbol before them.
+/// Each line alone says no symbol. Then lines meet a symbol before them.
 const TABLES: &str = "> app\t400\t0\tmain
 $ interpret --symbols=t e
 heapsuite: t:1: bad symbol line
@@ -112,7 +112,7 @@ heapsuite: t:2: symbols overlap
 const SYMBOLS: &str =
     "app\t400\t100\tmain\nlib\t4ff\t1\tg\napp\t500\t1\tg\ta.c\t20\na\t0\t10\tf\tx.c\t10\tg\ty.c\t11\nb\t0\t10\th\n# app\n";
 
-// Each instruction is named by the symbol that holds its offset in its module, where there is one, and modules come and go.
+/// Each instruction is named by the symbol that holds its offset in its module, where there is one, and modules come and go.
 const NAMED: &str = "> v 10500 2
 > m app 1000 0 1000
 > m none 2000 0 1000
@@ -240,7 +240,7 @@ v 10500 3
 [0]
 ";
 
-// The third call on the store reads the trace from byte 16 on: the lines before are written.
+/// The third call on the store reads the trace from byte 16 on: the lines before are written.
 const FAILED_READ: &str = "> v 10500 2
 > x app
 > x more

@@ -30,7 +30,7 @@ snapshot=4 time=5 mem_heap_B=100 mem_heap_extra_B=20 mem_stacks_B=0 heap_tree=em
 [0]
 ";
 
-// Each option at the least value of its range, and then at the greatest.
+/// Each option at the least value of its range, and then at the greatest.
 const RANGES: &str =
     "$ massif --threshold=0 --peak-inaccuracy=0 --detailed-freq=1 --max-snapshots=10 --depth=1 --heap-admin=0 --alignment=1 --time-unit=B e
 desc: heapsuite massif

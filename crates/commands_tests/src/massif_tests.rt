@@ -20,8 +20,8 @@ snapshot=2 time=160 mem_heap_B=132 mem_heap_extra_B=28 mem_stacks_B=0 heap_tree=
 [0]
 ";
 
-// A peak must pass the last one by one percent: 1010 doesn't pass 1000, and 1011 does. Then there is one block of the most bytes, whose
-// time is the number of events.
+/// A peak must pass the last one by one percent: 1010 doesn't pass 1000, and 1011 does. Then there is one block of the most bytes, whose
+/// time is the number of events.
 const PEAK_OFFERS: &str = "> v 10500 2
 > a 3e8 0
 > a a 0
@@ -69,8 +69,8 @@ snapshot=3 time=2 mem_heap_B=0 mem_heap_extra_B=0 mem_stacks_B=0 heap_tree=empty
 [0]
 ";
 
-// Empty pieces of a list are no names, and a part of a name is none. A name behind the front of a stack takes nothing off it, and a
-// stack all of whose frames are taken off isn't ignored.
+/// Empty pieces of a list are no names, and a part of a name is none. A name behind the front of a stack takes nothing off it, and a
+/// stack all of whose frames are taken off isn't ignored.
 const FUNCTIONS: &str = "$ massif --alloc-fns=f e
 desc: heapsuite massif
 cmd: demo
@@ -127,7 +127,7 @@ a 64 1
 - 0
 ";
 
-// The whole tree, the one of fronts of one place, and the one of no front that is large enough.
+/// The whole tree, the one of fronts of one place, and the one of no front that is large enough.
 const OF_CALLED: &str = "$ massif t
 desc: heapsuite massif
 cmd: (none)
@@ -169,7 +169,7 @@ snapshot=4 time=360 mem_heap_B=100 mem_heap_extra_B=20 mem_stacks_B=0 heap_tree=
 [0]
 ";
 
-// A block that is too large with what the heap adds to it is refused here alone.
+/// A block that is too large with what the heap adds to it is refused here alone.
 const REFUSALS: &str = "> v 10500 2
 > a 64 0
 > - 0

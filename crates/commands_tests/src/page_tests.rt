@@ -45,7 +45,7 @@ Number of snapshots: 5
 [0]
 ";
 
-// Of thousands of bytes and instructions, with a place below the threshold.
+/// Of thousands of bytes and instructions, with a place below the threshold.
 const SECOND_PAGE: &str =
     "> n2: 9000 (heap allocation functions) malloc/new/new[], --alloc-fns, etc.
 >  n0: 8960 0x4005BB: main (a.c:10)

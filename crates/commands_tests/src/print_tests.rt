@@ -2,7 +2,7 @@
 
 use crate::transcript::{Transcript, WORKED, play_all};
 
-// The last trace has a stack with all of the peak and one with more at another moment, which is of no account.
+/// The last trace has a stack with all of the peak and one with more at another moment, which is of no account.
 const REPORTS: &str = "$ print e
 MOST CALLS TO ALLOCATION FUNCTIONS
 1 calls (50.00%) at main (a.c:20)

@@ -157,7 +157,7 @@ heapsuite: t:6: too many bytes allocated
 [6]
 ";
 
-// Each line stands by itself behind the 18 lines of the worked trace.
+/// Each line stands by itself behind the 18 lines of the worked trace.
 const LINES: &str = "> z what
 $ summary t
 events: 3
@@ -248,7 +248,7 @@ fn stack_too_deep(rt: HostRuntime) {
     comes_to(&rt, rt.alloc(), &setting, &trace, "summary t", want);
 }
 
-// A line may have 9 bytes, and a file 20.
+/// A line may have 9 bytes, and a file 20.
 const LIMITED: &str = "> v 10500 2
 > # 2345678
 $ summary t
@@ -272,7 +272,7 @@ heapsuite: t:3: input too long
 [6]
 ";
 
-// A line may have 9 bytes, and a file 1,000.
+/// A line may have 9 bytes, and a file 1,000.
 const SHORT_LINES: &str = "> v 10500 2
 $ summary t
 events: 0
@@ -289,7 +289,7 @@ heapsuite: t:2: line too long
 [6]
 ";
 
-// A file may have 10 bytes, of which the first line and its line feed have all.
+/// A file may have 10 bytes, of which the first line and its line feed have all.
 const SHORT_FILE: &str = "$ summary t
 heapsuite: t:2: input too long
 [6]

@@ -113,7 +113,6 @@ fn time_unit(unit: &[u8]) -> TimeUnit
     }
 }
 
-/// The snapshots of the peak and of the end.
 fn live_snaps(alloc: Global, dhat: &Dhat, at_peak: u64, at_end: u64) -> Result<Snaps, NoMemory>
     requires sound { IsSound dhat.now }
     requires at_peak { at_peak ≡ sum (point_costs Gb dhat.now) }

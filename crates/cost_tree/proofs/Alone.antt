@@ -16,7 +16,7 @@ use Rattle.cost_tree.specs.NextFronts.{longer_front, next_fronts, texts_at}
 use Rattle.cost_tree.specs.Order.{by_cost}
 use Rattle.cost_tree.specs.Tails.{tail_line}
 use Rattle.cost_tree.proofs.Heads.{inclusive-cons}
-use Rattle.cost_tree.proofs.Brothers.{opened-is}
+use Rattle.cost_tree.proofs.Siblings.{opened-is}
 use Rattle.cost_tree.proofs.Firsts.{has-begun, one-longer}
 use Rattle.cost_tree.proofs.Nexts.{IsLonger, next-all, next-apart, next-longer}
 use Rattle.cost_tree.proofs.Prefixes.{has_front-itself, has_front-take}

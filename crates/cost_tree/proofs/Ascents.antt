@@ -6,7 +6,7 @@ use Rattle.std.proofs.lemmas.List.{length-take-le, length_push, take-append-le, 
 use Rattle.std.proofs.lemmas.Option.{none-some, same_Some, slice_get_within, slice_get-get_or, get_or_from_slice_get}
 use Rattle.cost_tree.specs.declared.edge.Edge.{Edge}
 use Rattle.cost_tree.specs.Shapes.{AreSteps, list_at, next_front, numbers_of}
-use Rattle.cost_tree.specs.Ways.{IsOnWay, IsWay}
+use Rattle.cost_tree.specs.Paths.{IsOnPath, IsPath}
 use Rattle.cost_tree.proofs.Lists.{get-push_cases, get-push_old, get-set_other}
 
 -- a node that has no number isn't node 0
@@ -19,12 +19,12 @@ pub free-above : (numbered : List ℕ) (node : ℕ) → slice_index numbered 0 �
 free-above numbered node root free = above-root numbered node root (get_or_from_slice_get numbered node 0 0 free)
 
 -- the way begins at the list's end
-pub IsWay-start : (edges : List Edge) (numbered path : List ℕ) (end : ℕ)
+pub IsPath-start : (edges : List Edge) (numbered path : List ℕ) (end : ℕ)
     → AreSteps (λ number. number) edges (numbers_of edges) → end ≤ length edges → path ≡ []
-    → IsWay edges numbered (list_at edges end) path end
-IsWay-start edges numbered path end are within empty =
+    → IsPath edges numbered (list_at edges end) path end
+IsPath-start edges numbered path end are within empty =
     let list : List ℕ = list_at edges end in
-    let P : List ℕ → Type 0 = λ way. IsWay edges numbered list way end in
+    let P : List ℕ → Type 0 = λ way. IsPath edges numbered list way end in
     subst P (sym empty) (record {
       short = omega arith;
       front =
@@ -34,12 +34,12 @@ IsWay-start edges numbered path end are within empty =
     })
 
 -- a node's edge on it, and the node above
-pub IsWay-step : (edges : List Edge) (numbered list path : List ℕ) (node : ℕ) (edge : Edge)
-    → AreSteps (λ number. number) edges (numbers_of edges) → IsWay edges numbered list path node
+pub IsPath-step : (edges : List Edge) (numbered list path : List ℕ) (node : ℕ) (edge : Edge)
+    → AreSteps (λ number. number) edges (numbers_of edges) → IsPath edges numbered list path node
     → slice_get numbered node ≡ Some 0 → 0 < node → slice_get edges (node - 1) ≡ Some edge
-    → IsWay edges numbered list (path ++ node ∷ []) edge.parent
-IsWay-step edges numbered list path zero edge are way free above at = absurd (omega arith)
-IsWay-step edges numbered list path (suc place) edge are way free above at =
+    → IsPath edges numbered list (path ++ node ∷ []) edge.parent
+IsPath-step edges numbered list path zero edge are way free above at = absurd (omega arith)
+IsPath-step edges numbered list path (suc place) edge are way free above at =
     let lists : List (List ℕ) = numbers_of edges in
     let back : suc place - 1 ≡ place = omega arith in
     let next : place + 1 ≡ suc place = omega arith in
@@ -69,8 +69,8 @@ IsWay-step edges numbered list path (suc place) edge are way free above at =
       each = λ k node found. elim (get-push_cases path (suc place) k node found) [
         | inl old ↦ way.each k node old
         | inr last ↦
-            let O : ℕ → Type 0 = λ m. IsOnWay edges numbered list m node in
-            let N : ℕ → Type 0 = λ m. IsOnWay edges numbered list (length path) m in
+            let O : ℕ → Type 0 = λ m. IsOnPath edges numbered list m node in
+            let N : ℕ → Type 0 = λ m. IsOnPath edges numbered list (length path) m in
             subst O (sym last.0) (subst N (sym last.1) (record { front = way.front; free = free }))
       ];
     }
@@ -83,11 +83,11 @@ parent-before edges lists node edge are above at = let step = are.step (node - 1
 -- what is left of a way: its places, the last of which is next
 pub record IsLeft (edges : List Edge) (numbered list path : List ℕ) : Type 0 where
   pub short : length path ≤ length list
-  pub each : (place node : ℕ) → slice_get path place ≡ Some node → IsOnWay edges numbered list place node
+  pub each : (place node : ℕ) → slice_get path place ≡ Some node → IsOnPath edges numbered list place node
 
 -- and it stays where its next node gets a number
 pub IsLeft-set : (edges : List Edge) (numbered list path : List ℕ) (node n : ℕ)
-    → IsLeft edges numbered list (path ++ node ∷ []) → IsOnWay edges numbered list (length path) node
+    → IsLeft edges numbered list (path ++ node ∷ []) → IsOnPath edges numbered list (length path) node
     → IsLeft edges (set numbered node n) list path
 IsLeft-set edges numbered list path node n left here =
     let more = length_push path node in
@@ -103,7 +103,7 @@ IsLeft-set edges numbered list path node n left here =
           };
     }
   where
-    apart : (place other : ℕ) → place < length path → IsOnWay edges numbered list place other → other ≢ node
+    apart : (place other : ℕ) → place < length path → IsOnPath edges numbered list place other → other ≢ node
     apart place other inside old same =
         let fronts =
         same_Some (take (length list - place) list) (take (length list - length path) list)
@@ -117,7 +117,7 @@ IsLeft-set edges numbered list path node n left here =
 
 -- a way stands at nodes of the shape
 pub node-within : (edges : List Edge) (numbered list path : List ℕ) (node : ℕ)
-    → AreSteps (λ number. number) edges (numbers_of edges) → IsWay edges numbered list path node → node ≤ length edges
+    → AreSteps (λ number. number) edges (numbers_of edges) → IsPath edges numbered list path node → node ≤ length edges
 node-within edges numbered list path node are way =
     let inside = slice_get_within (numbers_of edges) node (take (length list - length path) list) way.front in
     omega (arith, are.count)

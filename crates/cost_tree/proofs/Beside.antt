@@ -28,7 +28,7 @@ one-more {X} {Y} f g front xs ys new i x y before within new_is same =
 -- the links of a node, and of the node where it begins
 abbrev pub linked : List Link → ℕ → ℕ → ℕ → Link → Link → List Link
 linked links n parent child here there =
-    set (set links n (record here { next_brother = child })) parent (record there { first_child = n })
+    set (set links n (record here { next_sibling = child })) parent (record there { first_child = n })
 
 -- they change no cost and no text, and one link of each kind
 pub record IsLinked (links : List Link) (n parent child : ℕ) (new : List Link) : Type 0 where
@@ -39,11 +39,11 @@ pub record IsLinked (links : List Link) (n parent child : ℕ) (new : List Link)
 
 pub linked-is :
     (links : List Link) (n parent child : ℕ) (here there : Link) → here ≡ get_or links n here
-    → there ≡ get_or (set links n (record here { next_brother = child })) parent there
+    → there ≡ get_or (set links n (record here { next_sibling = child })) parent there
     → IsLinked links n parent child (linked links n parent child here there)
 linked-is links n parent child here there here_is there_is =
-    let mid : List Link = set links n (record here { next_brother = child }) in
-    let one : Link = record here { next_brother = child } in
+    let mid : List Link = set links n (record here { next_sibling = child }) in
+    let one : Link = record here { next_sibling = child } in
     let two : Link = record there { first_child = n } in
     record {
       costs =
@@ -56,8 +56,8 @@ linked-is links n parent child here there here_is there_is =
           ∙ ap (λ (ks : List ℕ). set ks parent n)
           (map-set_same (λ (l : Link). l.first_child) links n one here (ap (λ (l : Link). l.first_child) here_is));
       nexts =
-          map-set_same (λ (l : Link). l.next_brother) mid parent two there (ap (λ (l : Link). l.next_brother) there_is)
-          ∙ map-set (λ (l : Link). l.next_brother) links n one;
+          map-set_same (λ (l : Link). l.next_sibling) mid parent two there (ap (λ (l : Link). l.next_sibling) there_is)
+          ∙ map-set (λ (l : Link). l.next_sibling) links n one;
     }
 
 -- a first child, as it is read

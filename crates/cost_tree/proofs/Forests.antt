@@ -20,7 +20,7 @@ pub record IsForest (tree : TreeState) (stacks : List Costed) (depth : ℕ) : Ty
       → slice_get tree.nodes n ≡ Some node → 0 < inclusive front stacks → node.first ≡ least front stacks
   pub below : (n : ℕ) (front : List (List ℕ)) (node : CostNode) → 0 < n → slice_get tree.fronts n ≡ Some front
       → slice_get tree.nodes n ≡ Some node → IsBelow tree n front node
-  pub brothers : (m n : ℕ) (older younger : CostNode) → 0 < m → m < n → slice_get tree.nodes m ≡ Some older
+  pub siblings : (m n : ℕ) (older younger : CostNode) → 0 < m → m < n → slice_get tree.nodes m ≡ Some older
       → slice_get tree.nodes n ≡ Some younger → older.parent ≡ younger.parent → older.first < younger.first
 
 pub IsForest-tree : (tree : TreeState) (stacks : List Costed) (depth : ℕ) → IsTreeOf tree stacks depth
@@ -34,5 +34,5 @@ IsForest-tree tree stacks depth is = record {
   short = is.short;
   firsts = λ n front node at node_at some. (is.figures n front node at node_at).first some;
   below = is.below;
-  brothers = is.brothers;
+  siblings = is.siblings;
 }

@@ -20,7 +20,7 @@ use Rattle.cost_tree.specs.NextFronts.{next_fronts}
 use Rattle.cost_tree.specs.Texts.{IsText, texts_of}
 use Rattle.cost_tree.specs.TreeLines.{front_at}
 use Rattle.cost_tree.specs.TreeState.{TreeState}
-use Rattle.cost_tree.proofs.Brothers as brothers
+use Rattle.cost_tree.proofs.Siblings as siblings
 use Rattle.cost_tree.proofs.Cutting as cutting
 use Rattle.cost_tree.proofs.Forests.{IsForest-tree}
 use Rattle.cost_tree.proofs.Lists as lists
@@ -48,14 +48,14 @@ pub children-next : (tree : TreeState) (stacks : List Costed) (depth n : ℕ) (f
     → IsTreeOf tree stacks depth → slice_get tree.fronts n ≡ Some front → length front < depth
     → map (front_at tree) (children_of tree.nodes n) ≡ next_fronts front stacks
 children-next tree stacks depth n front is at shorter =
-    brothers.children-next tree stacks depth n front (IsForest-tree tree stacks depth is) at shorter
+    siblings.children-next tree stacks depth n front (IsForest-tree tree stacks depth is) at shorter
 
 -- a node of a front of the greatest length has none
 pub children-none : (tree : TreeState) (stacks : List Costed) (depth n : ℕ) (front : List (List ℕ))
     → IsTreeOf tree stacks depth → slice_get tree.fronts n ≡ Some front → depth ≤ length front
     → children_of tree.nodes n ≡ []
 children-none tree stacks depth n front is at longest =
-    brothers.children-none tree stacks depth n front (IsForest-tree tree stacks depth is) at longest
+    siblings.children-none tree stacks depth n front (IsForest-tree tree stacks depth is) at longest
 
 -- lists by their numbers, and one more
 pub listed-more : {X : Type 0} (f : ℕ → X) (n : ℕ) (old new : List X) → old ≡ map f (range_with_len 0 n)

@@ -18,7 +18,7 @@ mod Forests
 mod Trees
 mod Heads
 mod Ascending
-mod Brothers
+mod Siblings
 mod NextSums
 mod Orders
 mod Nexts

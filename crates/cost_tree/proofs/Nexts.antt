@@ -16,7 +16,7 @@ use Rattle.cost_tree.specs.CostLines.{cost_of, is_small, kept_fronts, last_of, s
 use Rattle.cost_tree.specs.Inclusive.{inclusive, is_front, least}
 use Rattle.cost_tree.specs.NextFronts.{longer_front, next_fronts, opens, texts_at}
 use Rattle.cost_tree.proofs.Ascending.{mapped-to}
-use Rattle.cost_tree.proofs.Brothers.{Opens, opened-is, opens-is}
+use Rattle.cost_tree.proofs.Siblings.{Opens, opened-is, opens-is}
 use Rattle.cost_tree.proofs.Linking.{contains_ranged, ordered, ranged}
 use Rattle.cost_tree.proofs.Orders.{by_cost-permutation}
 use Rattle.cost_tree.proofs.Prefixes.{is_front-Decides}

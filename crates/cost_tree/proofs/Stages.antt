@@ -409,10 +409,10 @@ IsGrowth-started names shape tree depth steps named started =
     root-level = ap (λ (fs : List (List (List ℕ))). map length fs) (sym (root-fronts names))
 
 -- a list's way in texts
-on-way : (names : List (List ℕ)) (shape : List Edge) (list : List ℕ) (node k : ℕ)
+on-path : (names : List (List ℕ)) (shape : List Edge) (list : List ℕ) (node k : ℕ)
     → slice_get (numbers_of shape) node ≡ Some (take k list)
     → slice_get (fronts_of names shape) node ≡ Some (take k (texts_of names list))
-on-way names shape list node k at =
+on-path names shape list node k at =
     ap (λ (fs : List (List (List ℕ))). slice_get fs node) (fronts_of-map names shape)
     ∙ get-mapped (texts_of names) (numbers_of shape) node (take k list) at
     ∙ ap (λ (ts : List (List ℕ)). Some ts) (sym (take-map (text_of names) k list))
@@ -429,7 +429,7 @@ pub IsStage-reached :
 IsStage-reached names shape tree before list path cost depth node n above growth at number =
     let front : List (List ℕ) = take (length list - length path) (texts_of names list) in
     let held =
-    growth.numbering.held node n front number (on-way names shape list node (length list - length path) at) in
+    growth.numbering.held node n front number (on-path names shape list node (length list - length path) at) in
     record {
       growth = record {
         branches = growth.branches;
@@ -512,7 +512,7 @@ AreStages-made shape numbers list depth old tree popped new path parent place n 
     let count = length-map numbers (text_of names) in
     let level = stage-level names shape tree before texts cost depth parent j stage (omega arith) in
     let here = left.each (length path) place (get-push_new path place) in
-    let at = on-way names shape numbers place (length numbers - length path) here.front in
+    let at = on-path names shape numbers place (length numbers - length path) here.front in
     let at_next : slice_get (fronts_of names shape) place ≡ Some (take (j + 1) texts) =
     at ∙ ap (λ (k : ℕ). Some (take k texts)) (sym next) in
     let free : slice_get popped.numbered.items place ≡ Some 0 =

@@ -31,7 +31,7 @@ use Rattle.cost_tree.specs.TreeLines.{HasLines, IsLineOf, IsPlace, front_at, lin
 use Rattle.cost_tree.specs.TreeState.{TreeState}
 use Rattle.cost_tree.specs.TreeTails.{first_at, tailed_at}
 use Rattle.cost_tree.proofs.Alone.{IsAlone, lines-none, lone-lines, next-none}
-use Rattle.cost_tree.proofs.Brothers.{texts_at-held}
+use Rattle.cost_tree.proofs.Siblings.{texts_at-held}
 use Rattle.cost_tree.proofs.Firsts.{AreFirst, AreFirstTo, IsCostly, begins-at, inclusive-same, kept-costly, least-same}
 use Rattle.cost_tree.proofs.Firsts.{line-same, lines-below, next-first, one-longer}
 use Rattle.cost_tree.proofs.Laws.{costed-count}

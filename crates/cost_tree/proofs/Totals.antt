@@ -20,7 +20,7 @@ use Rattle.cost_tree.specs.Summed.{AreSums, AreSumsFrom, cost_in}
 use Rattle.cost_tree.specs.Texts.{fronts_of}
 use Rattle.cost_tree.specs.TreeParts.{IsTree}
 use Rattle.cost_tree.specs.TreeState.{TreeState}
-use Rattle.cost_tree.proofs.Brothers.{children-next, children-none}
+use Rattle.cost_tree.proofs.Siblings.{children-next, children-none}
 use Rattle.cost_tree.proofs.ChildNodes.{sum-mapped, sum-same}
 use Rattle.cost_tree.proofs.Linking.{children_from-end, children_from-step, children_of-only, has_parent-at, no_node}
 use Rattle.cost_tree.proofs.Linking.{ranged}
@@ -401,7 +401,7 @@ IsTree-summed names edges nodes summed stacks depth has sums =
         below = λ n front node above front_at node_at.
             below-is names edges summed n front node branches above front_at node_at;
         root_parent = branches.root_parent;
-        brothers = λ m n older younger above later older_at younger_at parents.
+        siblings = λ m n older younger above later older_at younger_at parents.
             let old_m = was m older older_at in
             let old_n = was n younger younger_at in
             let same_m = sums.same m old_m.0 older old_m.1 older_at in
@@ -409,7 +409,7 @@ IsTree-summed names edges nodes summed stacks depth has sums =
             let first_m = ap (λ (x : CostNode). x.first) same_m in
             let first_n = ap (λ (x : CostNode). x.first) same_n in
             let order =
-            forest.brothers m n old_m.0 old_n.0 above later old_m.1 old_n.1
+            forest.siblings m n old_m.0 old_n.0 above later old_m.1 old_n.1
             (sym (ap (λ (x : CostNode). x.parent) same_m) ∙ parents ∙ ap (λ (x : CostNode). x.parent) same_n) in
             omega arith;
       };

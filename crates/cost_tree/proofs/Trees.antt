@@ -117,14 +117,14 @@ IsForest-grown names edges nodes stacks depth has =
       short = grown.short;
       firsts = grown.firsts;
       below = λ n front node above front_at node_at. below-is names edges nodes n front node are above front_at node_at;
-      brothers =
-          λ m n older younger above later older_at younger_at same. brothers_of m n older younger above later older_at
+      siblings =
+          λ m n older younger above later older_at younger_at same. siblings_of m n older younger above later older_at
           younger_at same;
     }
   where
-    brothers_of : (m n : ℕ) (older younger : CostNode) → 0 < m → m < n → slice_get nodes m ≡ Some older
+    siblings_of : (m n : ℕ) (older younger : CostNode) → 0 < m → m < n → slice_get nodes m ≡ Some older
         → slice_get nodes n ≡ Some younger → older.parent ≡ younger.parent → older.first < younger.first
-    brothers_of m n older younger above later older_at younger_at same =
+    siblings_of m n older younger above later older_at younger_at same =
         let fronts : List (List (List ℕ)) = fronts_of names edges in
         let are = has.branches in
         let edge_m = HasEdge-is names edges nodes fronts m older are above older_at in

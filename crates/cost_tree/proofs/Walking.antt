@@ -106,7 +106,7 @@ walking-all scale tree lines was = record {
   each = was.each;
 }
 
--- a child that has no brothers
+-- a child that has no siblings
 pub alone-is : (scale : Scale) (tree : TreeState) (level n child : ℕ) → children_of tree.nodes n ≡ child ∷ []
     → pending_children scale tree level n ≡ pending_alone scale tree level child ∷ []
 unfolding kept_children small_children

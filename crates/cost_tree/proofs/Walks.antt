@@ -30,7 +30,7 @@ use Rattle.cost_tree.specs.Pendings.{pending_gathered, pending_line, pending_lin
 use Rattle.cost_tree.specs.Shares.{cost_at, gathered_in, is_kept_at, is_small_at, kept_children, small_children}
 use Rattle.cost_tree.specs.TreeLines.{HasLines, IsLineOf, front_at, line_at}
 use Rattle.cost_tree.specs.TreeState.{TreeState}
-use Rattle.cost_tree.proofs.Brothers.{children-next, children-none}
+use Rattle.cost_tree.proofs.Siblings.{children-next, children-none}
 use Rattle.cost_tree.proofs.Forests.{IsForest-tree}
 use Rattle.cost_tree.proofs.ChildNodes.{IsChildOf, children-are, children-within, cost-is, kept-are, small-are}
 use Rattle.cost_tree.proofs.ChildNodes.{sum-mapped, sum-same}

@@ -27,15 +27,15 @@ pub record IsLink (nodes : List CostNode) (n after child : ℕ) : Type 0 where
   pub within : child < length nodes
   pub parent : (node : CostNode) → child ≢ 0 → slice_get nodes child ≡ Some node → node.parent ≡ n
 
--- each node links to its first child and to its next brother, of the nodes from node m on
-pub record AreLinksFrom (nodes : List CostNode) (first_children next_brothers : List ℕ)
+-- each node links to its first child and to its next sibling, of the nodes from node m on
+pub record AreLinksFrom (nodes : List CostNode) (first_children next_siblings : List ℕ)
     (m : ℕ) : Type 0 where
   pub firsts_count : length first_children ≡ length nodes
-  pub nexts_count : length next_brothers ≡ length nodes
+  pub nexts_count : length next_siblings ≡ length nodes
   pub first : (n : ℕ) → n < length nodes → IsLink nodes n m (slice_index first_children n)
   pub next : (k : ℕ) (node : CostNode) → m ≤ k → slice_get nodes k ≡ Some node
-      → IsLink nodes node.parent (k + 1) (slice_index next_brothers k)
+      → IsLink nodes node.parent (k + 1) (slice_index next_siblings k)
 
 -- all nodes are linked; node 0 is nobody's child
 abbrev pub AreLinks : List CostNode → List ℕ → List ℕ → Type 0
-AreLinks nodes first_children next_brothers = AreLinksFrom nodes first_children next_brothers 1
+AreLinks nodes first_children next_siblings = AreLinksFrom nodes first_children next_siblings 1

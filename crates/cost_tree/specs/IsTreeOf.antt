@@ -47,6 +47,6 @@ pub record IsTreeOf (tree : TreeState) (stacks : List Costed) (depth : ℕ) : Ty
       → IsBelow tree n front node
   pub root_parent : (node : CostNode) → slice_get tree.nodes 0 ≡ Some node → node.parent ≡ 0
   -- the children of a node, in the order of their numbers, stand by ascending `first`
-  pub brothers : (m n : ℕ) (older younger : CostNode) → 0 < m → m < n
+  pub siblings : (m n : ℕ) (older younger : CostNode) → 0 < m → m < n
       → slice_get tree.nodes m ≡ Some older → slice_get tree.nodes n ≡ Some younger
       → older.parent ≡ younger.parent → older.first < younger.first

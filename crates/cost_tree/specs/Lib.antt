@@ -5,7 +5,7 @@ pub mod Texts
 pub mod GrowingLists
 pub mod Told
 pub mod Growth
-pub mod Ways
+pub mod Paths
 pub mod Building
 pub mod Summed
 pub mod TreeParts

@@ -6,12 +6,12 @@ use Rattle.cost_tree.specs.declared.links.Link.{Link}
 use Rattle.cost_tree.specs.declared.node.CostNode.{CostNode}
 use Rattle.cost_tree.specs.Children.{AreLinks}
 
--- the first children of the nodes, and their next brothers
+-- the first children of the nodes, and their next siblings
 abbrev pub firsts_in : List Link → List ℕ
 firsts_in links = map (λ link. link.first_child) links
 
 abbrev pub nexts_in : List Link → List ℕ
-nexts_in links = map (λ link. link.next_brother) links
+nexts_in links = map (λ link. link.next_sibling) links
 
 -- what the nodes cost, and the numbers of their texts
 abbrev pub costs_in : List Link → List ℕ

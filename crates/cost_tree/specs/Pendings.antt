@@ -44,7 +44,7 @@ pending_children scale tree level n =
     pending_gathered level (gathered_in tree (small_children scale tree n))
     ++ reverse (map (Below level) (kept_children scale tree n))
 
--- what is pending of a child that has no brothers
+-- what is pending of a child that has no siblings
 abbrev pub pending_alone : Scale → TreeState → ℕ → ℕ → Pending
 pending_alone scale tree level child =
     if is_small_at scale tree child

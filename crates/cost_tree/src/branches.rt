@@ -9,7 +9,7 @@ ghost use Rattle.cost_tree.specs.Growth.{HasGrown, counted, ended, weight};
 ghost use Rattle.cost_tree.specs.Shapes.{AreSteps, IsShape, lists_in, numbers_of};
 ghost use Rattle.cost_tree.specs.Texts.{AreTexts, lists_of};
 ghost use Rattle.cost_tree.specs.TreeParts.{IsTree};
-ghost use Rattle.cost_tree.specs.Ways.{IsWayUp};
+ghost use Rattle.cost_tree.specs.Paths.{IsPathUp};
 ghost use Rattle.intern_tables.specs.Distinct.{AreDistinct};
 
 use crate::edge::Edge;
@@ -264,7 +264,7 @@ fn climb(
     requires count { length numbered.now ≡ length edges.now + 1 }
     requires root { slice_index numbered.now 0 ≡ 1 }
     ensures way { IfOk result
-        (λ n. IsWayUp edges.now numbered.now end path.new.items n) }
+        (λ n. IsPathUp edges.now numbered.now end path.new.items n) }
 {
     path.clear();
     let mut place = end;

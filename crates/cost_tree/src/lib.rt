@@ -5,7 +5,7 @@
 //!
 //! - `Shape` and `Chains` are seen as lists of lists of numbers, and a shape keeps each front of them once; `Fronts` as a list of
 //!   lists of texts, and keeps each distinct text once. Lists of texts can be made of names and a shape of their
-//!   numbers (`from_parts`). `ToldLists` is seen as a list of lists of texts too, and keeps how they were told: with which
+//!   numbers (`from_parts`). `CallerLists` is seen as a list of lists of texts too, and keeps how they were told: with which
 //!   earlier list each begins (`begin`), and which texts follow (`push`). `Costing` and `FrameTest` keep a closure, and what it
 //!   is to answer is said at each call that uses it.
 //! - `CostTree::of_fronts` gives the tree of the lists with their costs (`IsTreeOf`): one node for each front of at
@@ -33,7 +33,7 @@
 //! |---|---|
 //! | `shape.rt`, `edge.rt`, `edges.rt` | lists of numbers that share their fronts; how a node goes on from another, and those that do |
 //! | `fronts.rt` | lists of texts |
-//! | `told_lists.rt`, `list_step.rt` | lists of texts as they are told, and one step of that |
+//! | `caller_lists.rt`, `list_step.rt` | lists of texts as they are told, and one step of that |
 //! | `chains.rt`, `chain.rt` | lists of numbers that go on with earlier ones; one of them |
 //! | `cut_fronts.rt`, `cut.rt`, `ends.rt` | lists of texts that are cut, and of numbers; what lists cost together that end at one node |
 //! | `forked_fronts.rt`, `tails.rt` | lists of texts that are cut where they go on alone; the lines of their texts behind that |
@@ -49,6 +49,7 @@
 #![tactic(auto)]
 
 mod branches;
+mod caller_lists;
 mod chain;
 mod chains;
 mod child_nodes;
@@ -79,9 +80,9 @@ mod shown_line;
 mod sum_law;
 mod summing;
 mod tails;
-mod told_lists;
 mod tree;
 
+pub use caller_lists::CallerLists;
 pub use chains::Chains;
 pub use costing::Costing;
 pub use cut_fronts::CutFronts;
@@ -99,5 +100,4 @@ pub use scale::Scale;
 pub use shape::Shape;
 pub use shown_line::{ShownLine, ShownPlace};
 pub use sum_law::sums_of_fronts;
-pub use told_lists::ToldLists;
 pub use tree::CostTree;

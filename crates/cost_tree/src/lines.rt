@@ -136,7 +136,7 @@ fn push_children(
     }
 }
 
-/// What is pending of a node that has no brothers and stands on this level.
+/// What is pending of a node that has no siblings and stands on this level.
 fn only_child(tree: &CostTree, scale: Scale, level: usize, child: usize) -> Pending
     requires held { child < length tree.now.nodes }
     ensures { result ≡ pending_alone scale tree.now level child }

@@ -18,7 +18,7 @@ pub(crate) struct Link {
     /// 0 where it has no child.
     pub(crate) first_child: usize,
     /// The next child of its parent; 0 where there is none.
-    pub(crate) next_brother: usize,
+    pub(crate) next_sibling: usize,
 }
 
 /// The links of all nodes, by their numbers.
@@ -66,11 +66,11 @@ impl Links {
     }
 
     /// The next child of its parent, or 0.
-    pub(crate) fn next_brother(&self, n: usize) -> usize
+    pub(crate) fn next_sibling(&self, n: usize) -> usize
         requires held { n < length self.now.links.items }
         ensures { result ≡ slice_index (nexts_in self.now.links.items) n }
     {
-        self.links[n].next_brother
+        self.links[n].next_sibling
     }
 }
 
@@ -93,13 +93,13 @@ fn unlinked(room: Vec<Link>, edges: &[Edge], nodes: &[CostNode]) -> Result<Vec<L
 
 /// What is read of a node that has no links.
 fn alone(cost: u64, text: usize) -> Link
-    ensures { result ≡ record { cost = cost; text = text; first_child = 0; next_brother = 0 } }
+    ensures { result ≡ record { cost = cost; text = text; first_child = 0; next_sibling = 0 } }
 {
     Link {
         cost,
         text,
         first_child: 0,
-        next_brother: 0,
+        next_sibling: 0,
     }
 }
 
@@ -116,7 +116,7 @@ fn link_up(nodes: &[CostNode], links: &mut Vec<Link>)
     'each_node: for done in 1..nodes.len() {
         let n = nodes.len() - done;
         let parent = nodes[n].parent;
-        links[n].next_brother = links[parent].first_child;
+        links[n].next_sibling = links[parent].first_child;
         links[parent].first_child = n;
     }
 }

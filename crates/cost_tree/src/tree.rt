@@ -13,6 +13,7 @@ ghost use Rattle.cost_tree.specs.Shares.{cost_at};
 ghost use Rattle.cost_tree.specs.TreeLines.{HasLines, front_at};
 
 use crate::branches::Branches;
+use crate::caller_lists::CallerLists;
 use crate::child_nodes::ChildNodes;
 use crate::costing::Costing;
 use crate::cut_fronts::CutFronts;
@@ -23,7 +24,6 @@ use crate::links::Links;
 use crate::node::CostNode;
 use crate::room::{NodeRoom, TreeRoom};
 use crate::shape::Shape;
-use crate::told_lists::ToldLists;
 use hp_num::NoMemory;
 use intern_tables::Names;
 use std::alloc::Global;
@@ -110,7 +110,7 @@ impl<'a> CostTree<'a> {
     /// and lets go all else of the lists.
     pub fn of_lists(
         alloc: Global,
-        lists: ToldLists,
+        lists: CallerLists,
         costs: &[u64],
         depth: u32,
     ) -> Result<CostTree<'a>, NoMemory>
@@ -252,7 +252,7 @@ impl<'a> CostTree<'a> {
         if child == 0 {
             return ChildNodes::None;
         }
-        if self.links.next_brother(child) == 0 {
+        if self.links.next_sibling(child) == 0 {
             return ChildNodes::One { child };
         }
         ChildNodes::Several
@@ -289,7 +289,7 @@ impl<'a> CostTree<'a> {
         let mut child = self.links.first_child(n);
         'each_child: while child != 0 {
             out.push(child)?;
-            child = self.links.next_brother(child);
+            child = self.links.next_sibling(child);
         }
         Ok(())
     }
@@ -303,7 +303,7 @@ impl<'a> CostTree<'a> {
         let mut child = self.links.first_child(n);
         'each_child: while child != 0 {
             count += 1;
-            child = self.links.next_brother(child);
+            child = self.links.next_sibling(child);
         }
         count
     }

@@ -67,7 +67,7 @@ fn read_life(value: &Value, number: u32, told: bool) -> Result<Option<Life>, Dha
     }))
 }
 
-// Two whole numbers that must be there, one after the other.
+/// Two whole numbers that must be there, one after the other.
 fn read_pair(value: &Value, number: u32, first: Key, second: Key) -> Result<(u64, u64), DhatFault>
     ensures { ReadsFirst result (pair_findings number first second) (pair_at first second)
         value.now }
@@ -88,7 +88,7 @@ fn read_access(value: &Value, number: u32, told: bool) -> Result<Option<Access>,
     Ok(Some(Access { rb, wb }))
 }
 
-// The counts of accesses may be left out, and are dropped where they stand.
+/// The counts of accesses may be left out, and are dropped where they stand.
 fn check_counts(value: &Value, number: u32) -> Result<(), DhatFault>
     ensures { Reads result (allowed as_list (Some number) Key.Acc (data_of value.now)) tt }
 {

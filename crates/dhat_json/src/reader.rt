@@ -201,7 +201,7 @@ fn read_table(alloc: Global, value: &Value) -> Result<Texts, DhatFault>
     Ok(texts)
 }
 
-// One text of the table.
+/// One text of the table.
 fn read_entry(alloc: Global, value: &Value) -> Result<Text, DhatFault>
     ensures read { ReadsPart result (other_kind as_str None Key.Ftbl) text_in value.now }
     ensures utf8 { IfOk result IsUtf8 }
@@ -215,7 +215,6 @@ fn read_entry(alloc: Global, value: &Value) -> Result<Text, DhatFault>
     Ok(Text::new(alloc, text.as_bytes())?)
 }
 
-/// Whether the points are a list.
 fn check_points(value: &Value) -> Result<(), DhatFault>
     ensures { Reads result (needed as_list None Key.Pps (data_of value.now)) tt }
 {

@@ -7,7 +7,7 @@ use crate::figures::LifeFigures;
 
 /// What one stack has live, what it had most, and the sums of the times at which its blocks came and went. A block's own
 /// times aren't kept: the lifetimes of all blocks together follow from the sums.
-// Figures that one event adds to are apart, so that a compiler doesn't put them into one wide number.
+/// Figures that one event adds to are apart, so that a compiler doesn't put them into one wide number.
 #[derive(Clone, Copy)]
 pub(crate) struct Life {
     pub allocated: u64,

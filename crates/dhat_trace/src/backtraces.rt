@@ -6,9 +6,9 @@ ghost use Rattle.dhat_trace.specs.FrameTable.{AddsTexts, frame_texts};
 ghost use Rattle.dhat_trace.specs.KnownPlaces.{AreKnown, AreTold};
 
 use crate::frame_table::FrameTable;
+use crate::place_lists::PlaceLists;
 use crate::points::CalledStack;
 use crate::segment::Segment;
-use crate::told_places::ToldPlaces;
 use hp_num::NoMemory;
 use ht_trace::Tables;
 use std::alloc::Global;
@@ -20,7 +20,7 @@ pub(crate) fn backtraces(
     tables: &Tables,
     stacks: &[CalledStack],
     table: &mut FrameTable,
-) -> Result<ToldPlaces, NoMemory>
+) -> Result<PlaceLists, NoMemory>
     requires held { All (λ called. called.stack ≤ length tables.now.nodes) stacks.now }
     requires root { table.old.texts ≡ codes "[root]" ∷ [] }
     requires known { AreKnown tables.now table.old.texts table.old.known }
@@ -28,7 +28,7 @@ pub(crate) fn backtraces(
         (λ told. AreBacktraces tables.now (map (λ called. called.stack) stacks.now)
         table.new.texts told) }
 {
-    let mut told = ToldPlaces::new(alloc, tables.stacks() as usize)?;
+    let mut told = PlaceLists::new(alloc, tables.stacks() as usize)?;
     let mut places = Vec::new(alloc);
     let mut segments = Vec::new(alloc);
     'each_stack: for called in stacks {
@@ -53,7 +53,7 @@ fn tell_stack(
     table: &mut FrameTable,
     places: &mut Vec<usize>,
     segments: &mut Vec<Segment>,
-    told: &mut ToldPlaces,
+    told: &mut PlaceLists,
 ) -> Result<(), NoMemory>
     requires held { stack ≤ length tables.now.nodes }
     requires known { AreKnown tables.now table.old.texts table.old.known }

@@ -9,9 +9,9 @@ ghost use Rattle.dhat_trace.specs.Segments.{IsGathered};
 ghost use Rattle.dhat_trace.specs.KnownPlaces.{AreKnown, AreTold, GainsPlaces, HavePlaces, instruction_texts};
 
 use crate::known_places::KnownPlaces;
+use crate::place_lists::PlaceLists;
 use crate::segment::{Segment, note_segment};
 use crate::texts::make_utf8;
-use crate::told_places::ToldPlaces;
 use dhat_json::Texts;
 use hp_num::{NoMemory, Text};
 use ht_trace::{FrameAt, Style, Tables};
@@ -59,7 +59,7 @@ impl FrameTable {
     pub(crate) fn gather(
         &mut self,
         tables: &Tables,
-        told: &ToldPlaces,
+        told: &PlaceLists,
         stack: u32,
         places: &mut Vec<usize>,
         segments: &mut Vec<Segment>,

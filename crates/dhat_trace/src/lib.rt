@@ -16,7 +16,7 @@
 //! | `points.rt` | which stacks have a point, and their figures |
 //! | `backtraces.rt`, `segment.rt` | the places of the frames of these stacks; where a long way outwards is parted |
 //! | `frame_table.rt`, `texts.rt` | the table of frames; texts as they stand in a profile |
-//! | `known_places.rt`, `told_places.rt` | the places of the frames of instructions, and of stacks |
+//! | `known_places.rt`, `place_lists.rt` | the places of the frames of instructions, and of stacks |
 //!
 //! The tests of these calls are runs of `dhat` in the crate `commands_tests`.
 #![tactic(auto)]
@@ -24,10 +24,10 @@
 mod backtraces;
 mod frame_table;
 mod known_places;
+mod place_lists;
 mod points;
 mod profile;
 mod segment;
 mod texts;
-mod told_places;
 
 pub use profile::trace_profile_text;

@@ -17,9 +17,9 @@ ghost use Rattle.dhat_trace.specs.ProfileTexts.{command_text};
 
 use crate::backtraces::backtraces;
 use crate::frame_table::FrameTable;
+use crate::place_lists::PlaceLists;
 use crate::points::{CalledStack, PointFigures, called_stacks};
 use crate::texts::command_text;
-use crate::told_places::ToldPlaces;
 use dhat_json::{Dhat, FrameList, Point, PointWriter, Points, Texts};
 use dhat_metrics::Lifetimes;
 use hp_num::{NoMemory, Text};
@@ -75,7 +75,7 @@ pub fn trace_profile_text(
 /// What the tables tell of stacks: their frames, the texts of these, and the command.
 #[derive(Drop)]
 struct Told {
-    backtraces: ToldPlaces,
+    backtraces: PlaceLists,
     ftbl: Texts,
     cmd: Text,
 }
@@ -106,7 +106,7 @@ fn told_stacks(alloc: Global, tables: Tables, stacks: &[CalledStack]) -> Result<
 /// What is told of stacks while the tables are at hand. The texts of their frames stand in the table of frames still.
 #[derive(Drop)]
 struct Gathered {
-    backtraces: ToldPlaces,
+    backtraces: PlaceLists,
     table: FrameTable,
     cmd: Text,
 }
@@ -138,7 +138,7 @@ fn written(
     alloc: Global,
     head: Dhat,
     stacks: &[CalledStack],
-    backtraces: &ToldPlaces,
+    backtraces: &PlaceLists,
 ) -> Result<String, NoMemory>
     requires texts { HasTexts head }
     requires held { All (λ called. called.stack < length backtraces.now) stacks.now }
@@ -164,7 +164,7 @@ fn written(
 fn put_points(
     alloc: Global,
     stacks: &[CalledStack],
-    backtraces: &ToldPlaces,
+    backtraces: &PlaceLists,
     writer: &mut PointWriter,
 ) -> Result<(), NoMemory>
     requires held { All (λ called. called.stack < length backtraces.now) stacks.now }

@@ -322,9 +322,9 @@ in_flat f (x ∷ xs) a held = elim (Contains-append_cases (f x) (flat_map f xs) 
 ]
 
 -- lines of different fronts that are equally long
-brothers-apart : (n : ℕ) (one two : List (List ℕ)) (x y : FrontLine) → length one ≡ n → length two ≡ n → one ≢ two
+siblings-apart : (n : ℕ) (one two : List (List ℕ)) (x y : FrontLine) → length one ≡ n → length two ≡ n → one ≢ two
     → Begins one x → Begins two y → Apart x y
-brothers-apart n one two x y one_long two_long apart one_begins two_begins = λ front in_x in_y.
+siblings-apart n one two x y one_long two_long apart one_begins two_begins = λ front in_x in_y.
     apart (sym (one_begins front in_x) ∙ ap (λ (k : ℕ). take k front) (one_long ∙ sym two_long) ∙ two_begins front in_y)
 
 flat-apart : (n more : ℕ) (scale : Scale) (stacks : List Costed) (fronts : List (List (List ℕ)))
@@ -342,7 +342,7 @@ flat-apart n more scale stacks (front ∷ fronts) long apart each =
     let other =
     All-contains P fronts found.0
     (λ k d within. (long (suc k) d (omega arith), apart zero (suc k) d (omega arith) (omega arith))) found.1 in
-    brothers-apart n front found.0 x y (long zero front (omega arith)) other.0 other.1
+    siblings-apart n front found.0 x y (long zero front (omega arith)) other.0 other.1
     (All-contains (Begins front) (front_lines more scale stacks front) x (lines-begin more scale stacks front) here)
     (All-contains (Begins found.0) (front_lines more scale stacks found.0) y (lines-begin more scale stacks found.0)
     found.2)))

@@ -4,7 +4,7 @@ use Rattle.std.proofs.Common.{None, Ok, Err, refl, ap, sym, subst, ◌∙◌, in
 use Rattle.std.specs.Prelude.{vec_items}
 use Rattle.std.specs.Io.KnownBytes.{append_known}
 use Rattle.std.proofs.lemmas.Bool.Decides.{eqb_tells}
-use Rattle.hp_outside.specs.Faults.{Rose}
+use Rattle.hp_outside.specs.Faults.{Faulted}
 use Rattle.hp_outside.specs.Folder.{Folder}
 use Rattle.command_frame.specs.declared.context.RunContext.{RunContext}
 use Rattle.command_frame.specs.declared.halt.Halt.{Halt}
@@ -179,7 +179,7 @@ asked_checked may_write context limit modules scripts trace before mid now old b
             (λ t. after run.0 (rest_of t result)) texts
             (leads.1 now.moment (after run.0 (rest_of (texts_of context.texts) result)) ran);
         files = check.files ∙ read.files;
-        unwritten = λ four. subst (λ n. Rose n new.faults) same (check.unwritten (sym status ∙ four));
+        unwritten = λ four. subst (λ n. Faulted n new.faults) same (check.unwritten (sym status ∙ four));
         sound = λ other. check.sound (λ four. other (status ∙ four)) ∙ same;
       };
       done =

@@ -3,7 +3,7 @@ use Rattle.std.proofs.Common.{◌≡◌, ◌≢◌, ℕ, ◌+◌, ◌<◌, ◌�
 use Rattle.std.proofs.Common.{length-append, map, drop, drop-cons, drop_of_length-le, get_or, take, take_all, unwrap_or}
 use Rattle.std.proofs.Common.{Option, None, Some, Result, Ok, Err, refl, ap, sym, subst, ◌∙◌, arith}
 use Rattle.std.specs.Io.KnownBytes.{append_known}
-use Rattle.hp_outside.specs.Faults.{Rose}
+use Rattle.hp_outside.specs.Faults.{Faulted}
 use Rattle.hp_outside.specs.Folder.{Folder, file_of}
 use Rattle.hp_outside.specs.Lines.{lines_of}
 use Rattle.hp_outside.specs.Taken.{WhereTold}
@@ -25,8 +25,8 @@ use Rattle.command_frame.specs.RunsTo.{ReadsTo, Shown, Taken}
 use Rattle.command_frame.specs.Texts.{Texts, texts_of}
 use Rattle.command_frame.proofs.Laws.{append_nothing}
 use Rattle.record_scripts.specs.Job.{Job}
-use Rattle.heaprec_commands.specs.declared.reader.FileKind.{FileKind}
-use Rattle.heaprec_commands.specs.declared.reader.FileKind.TheVariants.{Modules, Script}
+use Rattle.heaprec_commands.specs.declared.reader.InputKind.{InputKind}
+use Rattle.heaprec_commands.specs.declared.reader.InputKind.TheVariants.{Modules, Script}
 use Rattle.heaprec_commands.specs.FileLines.{begun, file_report, with_lines}
 use Rattle.heaprec_commands.specs.FilesPlan.{file_front, file_plan, files_front, files_named, lines_in, modules_front}
 use Rattle.heaprec_commands.specs.FilesPlan.{scripts_front, scripts_in, scripts_plan}
@@ -34,19 +34,19 @@ use Rattle.heaprec_commands.specs.FrontRead.{Front, FrontRead, GoesOn, LeadsTo, 
 use Rattle.heaprec_commands.proofs.LineLemmas.{count-lines}
 
 -- no line gives a byte to standard output
-nothing_from : (kind : FileKind) (job : Job) (earlier lines : List (List ℕ))
+nothing_from : (kind : InputKind) (job : Job) (earlier lines : List (List ℕ))
     → gains_from (file_report kind job) earlier lines ≡ []
 nothing_from kind job earlier [] = refl
 nothing_from kind job earlier (line ∷ lines) = nothing_from kind job (earlier ++ line ∷ []) lines
 
-nothing_written : (kind : FileKind) (job : Job) (lines : List (List ℕ)) → written (file_report kind job) lines ≡ []
+nothing_written : (kind : InputKind) (job : Job) (lines : List (List ℕ)) → written (file_report kind job) lines ≡ []
 nothing_written kind job lines = nothing_from kind job [] lines
 
 take_none : (count : ℕ) → take {A = ℕ} count [] ≡ []
 take_none count = take_all count [] (omega arith)
 
 -- so an end of a file has given none
-none_gained : (kind : FileKind) (job : Job) (end : FileEnd) → end_output (file_report kind job) end ≡ []
+none_gained : (kind : InputKind) (job : Job) (end : FileEnd) → end_output (file_report kind job) end ≡ []
 none_gained kind job Unopened = refl
 none_gained kind job Absent = refl
 none_gained kind job CannotOpen = refl
@@ -56,7 +56,7 @@ none_gained kind job (Wanting taken) = nothing_written kind job taken
 none_gained kind job (Unwritten taken count) = ap (take count) (nothing_written kind job taken) ∙ take_none count
 none_gained kind job (Passed taken) = nothing_written kind job taken
 
-pub silent_end : (kind : FileKind) (job : Job) (end : FileEnd) (old new : Option (List ℕ))
+pub silent_end : (kind : InputKind) (job : Job) (end : FileEnd) (old new : Option (List ℕ))
     → new ≡ append_known old (end_output (file_report kind job) end) → new ≡ old
 silent_end kind job end old new gained = gained ∙ ap (append_known old) (none_gained kind job end) ∙ append_nothing old
 
@@ -68,7 +68,7 @@ behind_nothing : (early : List ℕ) (answer : Answer) → early ≡ [] → after
 behind_nothing early answer none = ap (λ bytes. after bytes answer) none ∙ after_nothing answer
 
 -- a file of which not all lines were taken
-halts_at : (texts : Texts) (bounds : Bounds) (files : Option Folder) (kind : FileKind) (name : List ℕ) (start : Job)
+halts_at : (texts : Texts) (bounds : Bounds) (files : Option Folder) (kind : InputKind) (name : List ℕ) (start : Job)
     (before now : Moment) (end : FileEnd) (answer : Answer)
     → FileRead bounds files name (file_report kind start) before now end → IsStop end
     → answer ≡ end_answer texts name end
@@ -171,7 +171,7 @@ opened_once : (files : Option Folder) (before now : Moment) (end : FileEnd) (tak
 opened_once files before now end taken calls is = (subst (λ (e : FileEnd). Calls files before now e) is calls).0.opens
 
 -- behind a file whose lines were all taken
-leads_on : (texts : Texts) (bounds : Bounds) (files : Option Folder) (kind : FileKind) (name : List ℕ) (start job : Job)
+leads_on : (texts : Texts) (bounds : Bounds) (files : Option Folder) (kind : InputKind) (name : List ℕ) (start job : Job)
     (before now : Moment) (end : FileEnd) (taken : List (List ℕ))
     → FileRead bounds files name (file_report kind start) before now end → end ≡ Passed taken
     → job ≡ with_lines kind start taken
@@ -213,7 +213,7 @@ no_failed_write : (halt : Halt) → halt ≡ record { message = OutOfMemory; sta
     → status_code halt.status ≢ 4
 no_failed_write halt is = λ four. omega (arith, sym (ap (λ (h : Halt). status_code h.status) is) ∙ four)
 
-wants_file : (context : RunContext) (files : Option Folder) (kind : FileKind) (name : List ℕ) (start : Job) (now : Moment)
+wants_file : (context : RunContext) (files : Option Folder) (kind : InputKind) (name : List ℕ) (start : Job) (now : Moment)
     (halt : Halt)
     → halt ≡ record { message = OutOfMemory; status = NoMemory }
     → GoesOn (texts_of context.texts) (bounds_of context.limits) files (file_front kind name start) now now (Err halt)
@@ -248,7 +248,7 @@ wanting_front context front store out halt is ran =
       sound = λ other. refl;
     }
 
-pub wanting_file : (context : RunContext) (kind : FileKind) (name : List ℕ) (start : Job) (store : Shown) (out : Taken)
+pub wanting_file : (context : RunContext) (kind : InputKind) (name : List ℕ) (start : Job) (store : Shown) (out : Taken)
     (result : Result Job Halt)
     → IsErrAnd result (λ halt. halt ≡ record { message = OutOfMemory; status = NoMemory })
     → FrontRead context (file_front kind name start) store store out out result
@@ -280,7 +280,7 @@ wanting_files context modules names start store out (Err halt) is some =
     (wants_files context store.files modules names start store.moment halt is some)
 
 -- a file that was read to its end, and one that wasn't
-pub file_passed : (context : RunContext) (kind : FileKind) (name : List ℕ) (start job : Job) {has_taken : List (List ℕ) → Type 0}
+pub file_passed : (context : RunContext) (kind : InputKind) (name : List ℕ) (start job : Job) {has_taken : List (List ℕ) → Type 0}
     (before now : Shown) (old new : Taken)
     → ReadsTo context name (file_report kind start) has_taken before now old new (Ok tt)
     → ((taken : List (List ℕ)) → has_taken taken → job ≡ with_lines kind start taken)
@@ -295,7 +295,7 @@ file_passed context kind name start job before now old new read said = record {
   sound = read.sound;
 }
 
-pub file_stopped : (context : RunContext) (kind : FileKind) (name : List ℕ) (start : Job) {has_taken : List (List ℕ) → Type 0}
+pub file_stopped : (context : RunContext) (kind : InputKind) (name : List ℕ) (start : Job) {has_taken : List (List ℕ) → Type 0}
     (before now : Shown) (old new : Taken) (halt : Halt)
     → ReadsTo context name (file_report kind start) has_taken before now old new (Err halt)
     → FrontRead context (file_front kind name start) before now old new (Err halt)
@@ -348,7 +348,7 @@ front_behind context front left before mid now old between new result leads same
       same read.goes_on);
   silent = read.silent ∙ silent;
   files = read.files ∙ same;
-  unwritten = λ four. subst (λ faults. Rose faults new.faults) sound (read.unwritten four);
+  unwritten = λ four. subst (λ faults. Faulted faults new.faults) sound (read.unwritten four);
   sound = λ other. read.sound other ∙ sound;
 }
 

@@ -6,12 +6,12 @@ use Rattle.record_scripts.specs.ScriptFaults.{with_turn}
 use Rattle.record_scripts.specs.ScriptLine.{turn_in}
 use Rattle.record_scripts.specs.Skipped.{is_skipped}
 use Rattle.record_scripts.specs.Turns.{Turn}
-use Rattle.heaprec_commands.specs.declared.reader.FileKind.{FileKind}
-use Rattle.heaprec_commands.specs.declared.reader.FileKind.TheVariants.{Modules, Script}
+use Rattle.heaprec_commands.specs.declared.reader.InputKind.{InputKind}
+use Rattle.heaprec_commands.specs.declared.reader.InputKind.TheVariants.{Modules, Script}
 use Rattle.heaprec_commands.specs.FileLines.{with_lines, with_one}
 
 -- one line more
-pub lines-push : (kind : FileKind) (job : Job) (lines : List (List ℕ)) (line : List ℕ)
+pub lines-push : (kind : InputKind) (job : Job) (lines : List (List ℕ)) (line : List ℕ)
     → with_lines kind job (lines ++ line ∷ []) ≡ with_one kind (with_lines kind job lines) line
 lines-push kind job [] line = refl
 lines-push kind job (first ∷ lines) line = lines-push kind (with_one kind job first) lines line
@@ -32,14 +32,14 @@ count-either true one other count first second = first
 count-either false one other count first second = second
 
 -- nor is a line
-pub count-one : (kind : FileKind) (job : Job) (line : List ℕ)
+pub count-one : (kind : InputKind) (job : Job) (line : List ℕ)
     → length (with_one kind job line).scripts ≡ length job.scripts
 count-one Modules job line = count-either (is_skipped line) job _ (length job.scripts) refl refl
 count-one Script job line =
     count-either (is_skipped line) job (with_turn job (turn_in line)) (length job.scripts) refl
     (count-said job (turn_in line))
 
-pub count-lines : (kind : FileKind) (job : Job) (lines : List (List ℕ))
+pub count-lines : (kind : InputKind) (job : Job) (lines : List (List ℕ))
     → length (with_lines kind job lines).scripts ≡ length job.scripts
 count-lines kind job [] = refl
 count-lines kind job (line ∷ lines) = count-lines kind (with_one kind job line) lines ∙ count-one kind job line

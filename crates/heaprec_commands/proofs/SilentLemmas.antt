@@ -3,7 +3,7 @@ use Rattle.std.proofs.Common.{ℕ, List, [], ◌∷◌, Option, None, Some, refl
 use Rattle.command_frame.specs.Plan.{Plan}
 use Rattle.command_frame.specs.Silent.{IsSilent}
 use Rattle.record_scripts.specs.Job.{Job}
-use Rattle.heaprec_commands.specs.declared.reader.FileKind.TheVariants.{Modules, Script}
+use Rattle.heaprec_commands.specs.declared.reader.InputKind.TheVariants.{Modules, Script}
 use Rattle.heaprec_commands.specs.Answer.{task_plan}
 use Rattle.heaprec_commands.specs.FileLines.{begun, with_lines}
 use Rattle.heaprec_commands.specs.FilesPlan.{files_plan, scripts_plan}

@@ -6,14 +6,14 @@ use Rattle.std.specs.Option.{option_map}
 use Rattle.hp_outside.specs.WholeLines.{IsLineText}
 use Rattle.command_frame.specs.Batch.{HasGivenLine, TakesFirst}
 use Rattle.record_scripts.specs.Job.{Job}
-use Rattle.heaprec_commands.specs.declared.reader.FileKind.{FileKind}
+use Rattle.heaprec_commands.specs.declared.reader.InputKind.{InputKind}
 use Rattle.heaprec_commands.specs.FaultTold.{told}
 use Rattle.heaprec_commands.specs.FileLines.{file_report, one_fault, with_lines, with_one}
 use Rattle.heaprec_commands.specs.FrontTaken.{TakesFront}
 use Rattle.heaprec_commands.proofs.LineLemmas.{lines-push}
 
 -- a line that ends where a line feed is
-pub front-taken : (kind : FileKind) (old new : Job) (ready line : List ℕ) (end : ℕ) → line ≡ take end ready
+pub front-taken : (kind : InputKind) (old new : Job) (ready line : List ℕ) (end : ℕ) → line ≡ take end ready
     → end < length ready → end < 64 → IsLineText (take end ready) → get_or ready end 0 ≡ 10
     → one_fault kind old line ≡ None → new ≡ with_one kind old line → TakesFront kind old new ready (end + 1)
 front-taken kind old new ready line end line_is within short text feed none is =
@@ -35,7 +35,7 @@ front-taken kind old new ready line end line_is within short text feed none is =
     }
 
 -- as the frame has it: a line of a script gives nothing
-given : {output : List ℕ} (kind : FileKind) (start old new : Job) (ready : List ℕ) (bytes : ℕ)
+given : {output : List ℕ} (kind : InputKind) (start old new : Job) (ready : List ℕ) (bytes : ℕ)
     → TakesFront kind old new ready bytes
     → HasGivenLine (file_report kind start) (λ lines. old ≡ with_lines kind start lines)
     (λ lines. new ≡ with_lines kind start lines) ready bytes output output
@@ -54,7 +54,7 @@ given {output} kind start old new ready bytes front = record {
 }
 
 -- whether or not one is taken
-pub given-first : (output : List ℕ) (kind : FileKind) (start old new : Job) (ready : List ℕ) (answer : Option ℕ)
+pub given-first : (output : List ℕ) (kind : InputKind) (start old new : Job) (ready : List ℕ) (answer : Option ℕ)
     → IfSome answer (λ bytes. TakesFront kind old new ready bytes) → IfNone answer (new ≡ old)
     → TakesFirst (file_report kind start) (λ lines. old ≡ with_lines kind start lines)
     (λ lines. new ≡ with_lines kind start lines) ready output output answer

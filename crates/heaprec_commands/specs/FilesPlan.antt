@@ -9,13 +9,13 @@ use Rattle.command_frame.specs.declared.context.RunContext.{RunContext}
 use Rattle.command_frame.specs.Plan.{Lines, Plan}
 use Rattle.heaprec_commands.specs.declared.files.ScriptFiles.{ScriptFiles}
 use Rattle.record_scripts.specs.Job.{Job}
-use Rattle.heaprec_commands.specs.declared.reader.FileKind.{FileKind}
-use Rattle.heaprec_commands.specs.declared.reader.FileKind.TheVariants.{Modules, Script}
+use Rattle.heaprec_commands.specs.declared.reader.InputKind.{InputKind}
+use Rattle.heaprec_commands.specs.declared.reader.InputKind.TheVariants.{Modules, Script}
 use Rattle.heaprec_commands.specs.FileLines.{begun, file_report, no_job, with_lines}
 use Rattle.heaprec_commands.specs.FrontRead.{Front}
 
 -- a file behind a job, and then what is done with the job that it gives
-abbrev pub file_plan : FileKind → List ℕ → Job → (Job → Plan) → Plan
+abbrev pub file_plan : InputKind → List ℕ → Job → (Job → Plan) → Plan
 file_plan kind name job next = Lines name (file_report kind job)
     (λ lines. next (with_lines kind job lines))
 
@@ -63,7 +63,7 @@ job_in folder modules names limit = scripts_in folder names
     (modules_in folder modules (no_job limit))
 
 -- the first files of a run: one, the scripts, the modules file, and the modules file with the scripts behind it
-abbrev pub file_front : FileKind → List ℕ → Job → Front
+abbrev pub file_front : InputKind → List ℕ → Job → Front
 file_front kind name job = record {
   names = name ∷ [];
   plan = file_plan kind name job;

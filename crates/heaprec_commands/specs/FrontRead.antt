@@ -4,7 +4,7 @@
 use Rattle.std.specs.Prelude.{◌≡◌, ◌≢◌, ℕ, ◌+◌, List, [], ◌++◌, length, Option, Result, Ok, Err}
 use Rattle.hp_outside.specs.declared.store.Store as store
 use Rattle.hp_outside.specs.declared.sink.Sink as sink
-use Rattle.hp_outside.specs.Faults.{Rose}
+use Rattle.hp_outside.specs.Faults.{Faulted}
 use Rattle.hp_outside.specs.Folder.{Folder}
 use Rattle.hp_outside.specs.Taken.{WhereTold}
 use Rattle.command_frame.specs.declared.context.RunContext.{RunContext}
@@ -65,7 +65,7 @@ pub record FrontRead (context : RunContext) (front : Front) (before now : Shown)
       before.moment now.moment result
   pub silent : new.written ≡ old.written
   pub files : now.files ≡ before.files
-  pub unwritten : status_of result ≡ 4 → Rose old.faults new.faults
+  pub unwritten : status_of result ≡ 4 → Faulted old.faults new.faults
   pub sound : status_of result ≢ 4 → new.faults ≡ old.faults
 
 -- the same, of a store and an output before it and after it

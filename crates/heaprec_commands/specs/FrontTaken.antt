@@ -4,11 +4,11 @@ use Rattle.std.specs.Prelude.{◌≡◌, ℕ, ◌+◌, List, ◌∷◌, ◌++◌
 use Rattle.hp_outside.specs.WholeLines.{IsLineText}
 use Rattle.command_frame.specs.Batch.{IsShortLine}
 use Rattle.record_scripts.specs.Job.{Job}
-use Rattle.heaprec_commands.specs.declared.reader.FileKind.{FileKind}
+use Rattle.heaprec_commands.specs.declared.reader.InputKind.{InputKind}
 use Rattle.heaprec_commands.specs.FileLines.{one_fault, with_one}
 
 -- the first line of the bytes has so many bytes with its line feed, and was taken without a fault
-pub record TakesFront (kind : FileKind) (old new : Job) (ready : List ℕ) (bytes : ℕ) : Type 0 where
+pub record TakesFront (kind : InputKind) (old new : Job) (ready : List ℕ) (bytes : ℕ) : Type 0 where
   pub line : List ℕ
   pub one_line : IsLineText line
   pub short : IsShortLine line

@@ -7,7 +7,7 @@ use Rattle.hp_outside.specs.Folder.{Folder}
 use Rattle.hp_outside.specs.Taken.{WhereTold}
 use Rattle.command_frame.specs.Answer.{Answer}
 use Rattle.command_frame.specs.FirstFault.{Bounds}
-use Rattle.command_frame.specs.Outside.{ErrRose, Gives, OutRose, Outside, StoreRose}
+use Rattle.command_frame.specs.Outside.{ErrFaulted, Gives, OutFaulted, Outside, StoreFaulted}
 use Rattle.command_frame.specs.RunEnds.{IsDelivered, RunEnds}
 use Rattle.command_frame.specs.WordsRan.{WordsRan}
 use Rattle.heaprec_commands.specs.Answer.{HaveNoFault, job_asked, names_asked, rec_answer, task_asked, trace_asked}
@@ -55,7 +55,7 @@ pub record HeaprecRan (bounds : Bounds) (limit : ℕ) (words : List (List ℕ)) 
   -- the headline: over a store that tells its files, with no failed call and memory not wanting, output, message and status are the
   -- defined ones, with a text that at status 0 is that of such an order, unless a trace was to be checked
   pub defined : (folder : Folder) → before.store.files ≡ Some folder
-      → ¬ StoreRose before now → ¬ OutRose before now → ¬ ErrRose before now → status ≢ 5
+      → ¬ StoreFaulted before now → ¬ OutFaulted before now → ¬ ErrFaulted before now → status ≢ 5
       → (text : List ℕ) × (Gives before now (rec_answer words bounds limit folder text) status
       × (status ≡ 0
       → IsDone IsRecorded limit before.store.files (record_asked words)
@@ -63,14 +63,14 @@ pub record HeaprecRan (bounds : Bounds) (limit : ℕ) (words : List (List ℕ)) 
   -- completeness: where no file has a fault, the status is 0
   pub complete : (folder : Folder) → before.store.files ≡ Some folder
       → ((text : List ℕ) → (rec_answer words bounds limit folder text).status ≡ 0)
-      → ¬ StoreRose before now → ¬ OutRose before now → ¬ ErrRose before now → status ≢ 5
+      → ¬ StoreFaulted before now → ¬ OutFaulted before now → ¬ ErrFaulted before now → status ≢ 5
       → status ≡ 0
   -- statuses 0, 1 and 6: exactly where the words and the files define them
   pub judged : (folder : Folder) → before.store.files ≡ Some folder → status ≢ 3 → status ≢ 4
       → status ≢ 5
       → (text : List ℕ) × Gives before now (rec_answer words bounds limit folder text) status
   pub faulty : (folder : Folder) (code : ℕ) → before.store.files ≡ Some folder
-      → ¬ StoreRose before now
+      → ¬ StoreFaulted before now
       → ((text : List ℕ) → (rec_answer words bounds limit folder text).status ≡ code)
       → status ≢ 4 → status ≢ 5 → status ≡ code
   -- unless the status is 0 or 4, nothing was written to standard output

@@ -2,7 +2,7 @@
 ghost use Rattle.std.specs.Prelude.{◌-◌, ◌^◌, ◌<◌};
 ghost use Rattle.heaprec_commands.specs.RunsOver.{Checks};
 
-use crate::trace_reader::TraceReader;
+use crate::checked_trace::CheckedTrace;
 use command_frame::{Halt, RunContext, run_one_file};
 use hp_outside::{Sink, Store};
 use order_check::OrderCheck;
@@ -22,6 +22,6 @@ pub fn check_trace<S: Store, O: Sink>(
         result }
 {
     let check = OrderCheck::new(context.alloc, scripts.share()?)?;
-    let reader = TraceReader { check };
+    let reader = CheckedTrace { check };
     run_one_file(context, name, reader, store, out)
 }

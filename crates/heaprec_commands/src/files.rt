@@ -1,14 +1,14 @@
 //! Reading the named files of a recording in their order. What their lines say is the business of the reader.
 ghost use Rattle.std.specs.Prelude.{◌+◌, ◌-◌, ◌^◌, ◌<◌, ◌≤◌, length, map, ◌≡◌};
 ghost use Rattle.std.specs.Option.{option_copied};
-ghost use Rattle.heaprec_commands.specs.declared.reader.FileKind.TheVariants.{Script as ScriptFile};
+ghost use Rattle.heaprec_commands.specs.declared.reader.InputKind.TheVariants.{Script as ScriptFile};
 ghost use Rattle.heaprec_commands.specs.FileLines.{begun};
 ghost use Rattle.heaprec_commands.specs.FilesPlan.{file_front, front_of, modules_front, scripts_front};
 ghost use Rattle.heaprec_commands.specs.FileStart.{HasLimits};
 ghost use Rattle.heaprec_commands.specs.FrontRead.{ReadsFront};
 
 use crate::one_file::{NamedFile, read_file};
-use crate::reader::FileKind;
+use crate::reader::InputKind;
 use command_frame::{Halt, RunContext};
 use hp_outside::{LineReader, Sink, Store};
 use record_scripts::Scripts;
@@ -66,7 +66,7 @@ fn read_modules<S: Store, O: Sink>(
         None => Ok(scripts),
         Some(name) => {
             let file = NamedFile {
-                kind: FileKind::Modules,
+                kind: InputKind::Modules,
                 name,
             };
             read_file(context, lines, &file, scripts, store, out)
@@ -120,7 +120,7 @@ fn read_script<S: Store, O: Sink>(
     let mut scripts = scripts;
     scripts.begin()?;
     let file = NamedFile {
-        kind: FileKind::Script,
+        kind: InputKind::Script,
         name,
     };
     read_file(context, lines, &file, scripts, store, out)

@@ -18,7 +18,7 @@
 //! | `reader.rt`, `take_line.rt`, `ready_lines.rt` | one file, line by line, and many lines of a script at a time |
 //! | `refusal.rt` | what a refused line is called |
 //! | `record_text.rt` | the text of a recording by threads |
-//! | `check_trace.rt`, `trace_reader.rt`, `check_refusal.rt` | the trace that is checked, line by line, and what it is called where it is none |
+//! | `check_trace.rt`, `checked_trace.rt`, `check_refusal.rt` | the trace that is checked, line by line, and what it is called where it is none |
 //! | `run_words.rt` | from the words and the files to what is to be delivered |
 //! | `run.rt` | the run, and what is delivered |
 //! | `texts.rt`, `open_gate.rt` | the texts of the program, and its gate |
@@ -26,6 +26,7 @@
 
 mod check_refusal;
 mod check_trace;
+mod checked_trace;
 mod files;
 mod inputs;
 mod one_file;
@@ -39,6 +40,5 @@ mod run;
 mod run_words;
 mod take_line;
 mod texts;
-mod trace_reader;
 
 pub use run::{heaprec_main, heaprec_run};

@@ -1,11 +1,11 @@
 //! Reading one named file of a recording. Which files there are is no part of it.
 ghost use Rattle.std.specs.Prelude.{◌≡◌, ◌-◌, ◌^◌, ◌<◌, length};
-ghost use Rattle.heaprec_commands.specs.declared.reader.FileKind.TheVariants.{Script};
+ghost use Rattle.heaprec_commands.specs.declared.reader.InputKind.TheVariants.{Script};
 ghost use Rattle.heaprec_commands.specs.FilesPlan.{file_front};
 ghost use Rattle.heaprec_commands.specs.FileStart.{BeginsWith, HasLimits};
 ghost use Rattle.heaprec_commands.specs.FrontRead.{ReadsFront};
 
-use crate::reader::{FileKind, FileReader, Start};
+use crate::reader::{FileReader, InputKind, Start};
 use command_frame::{Halt, RunContext, read_named_file};
 use hp_outside::{LineReader, Sink, Store};
 use record_scripts::Scripts;
@@ -14,7 +14,7 @@ use std::marker::{Brand, PhantomData};
 /// A file, and what its lines are.
 #[derive(Clone, Copy)]
 pub struct NamedFile<'a> {
-    pub kind: FileKind,
+    pub kind: InputKind,
     pub name: &'a str,
 }
 

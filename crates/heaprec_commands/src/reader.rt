@@ -11,7 +11,7 @@ use std::marker::{Brand, PhantomData};
 
 /// What the lines of a file are.
 #[derive(Clone, Copy)]
-pub enum FileKind {
+pub enum InputKind {
     /// Lines of modules.
     Modules,
     /// Turns of the thread whose script was opened last.
@@ -20,17 +20,17 @@ pub enum FileKind {
 
 /// What was read before a file, for proofs: a program carries nothing of it.
 pub trait Start {
-    ghost use Rattle.heaprec_commands.specs.declared.reader.FileKind.{FileKind};
+    ghost use Rattle.heaprec_commands.specs.declared.reader.InputKind.{InputKind};
 
     /// What the lines of the file are.
-    ghost kind: { FileKind };
+    ghost kind: { InputKind };
 
     /// The job before its first line.
     ghost job: { Job };
 }
 
 impl Start for Brand {
-    ghost use Rattle.heaprec_commands.specs.declared.reader.FileKind.TheVariants.{Modules};
+    ghost use Rattle.heaprec_commands.specs.declared.reader.InputKind.TheVariants.{Modules};
     ghost use Rattle.heaprec_commands.specs.FileLines.{no_job};
 
     ghost kind = { Modules };
@@ -41,13 +41,13 @@ impl Start for Brand {
 /// What was read of a file, behind what `B` says.
 #[derive(Drop)]
 pub struct FileReader<B: Start> {
-    pub kind: FileKind,
+    pub kind: InputKind,
     pub scripts: Scripts,
     pub behind: PhantomData<B>,
 }
 
 impl<B: Start> LineTaker for FileReader<B> {
-    ghost use Rattle.heaprec_commands.specs.declared.reader.FileKind.TheVariants.{Script};
+    ghost use Rattle.heaprec_commands.specs.declared.reader.InputKind.TheVariants.{Script};
     ghost use Rattle.heaprec_commands.specs.FileLines.{file_report, with_lines};
 
     type Fault = RefusedLine;
@@ -76,8 +76,8 @@ impl<B: Start> LineTaker for FileReader<B> {
     #[inline(always)]
     fn front(&mut self, ready: &[u8], _output: &mut Vec<u8>) -> Option<usize> {
         match self.kind {
-            FileKind::Modules => None,
-            FileKind::Script => take_front(&mut self.scripts, ready),
+            InputKind::Modules => None,
+            InputKind::Script => take_front(&mut self.scripts, ready),
         }
     }
 }

@@ -1,7 +1,7 @@
 //! The line of a script at the front of bytes that are at hand. Any line may be left to be taken alone.
 ghost use Rattle.std.specs.Prelude.{◌≡◌, ◌<◌, length, take, get_or, IfNone, IfSome};
 ghost use Rattle.hp_outside.specs.WholeLines.{IsLineText};
-ghost use Rattle.heaprec_commands.specs.declared.reader.FileKind.TheVariants.{Script};
+ghost use Rattle.heaprec_commands.specs.declared.reader.InputKind.TheVariants.{Script};
 ghost use Rattle.heaprec_commands.specs.FrontTaken.{TakesFront};
 
 use record_scripts::Scripts;
@@ -41,7 +41,7 @@ fn line_end(bytes: &[u8]) -> Option<usize>
 }
 
 /// The same of 64 bytes.
-// The loop is one over a constant range, which the compiler unrolls.
+/// The loop is one over a constant range, which the compiler unrolls.
 #[inline(always)]
 fn feed_in(front: &[u8; LONGEST]) -> Option<usize>
     ensures one_line { IfSome result (λ end. IsLineText (take end front.now)) }

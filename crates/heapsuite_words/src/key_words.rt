@@ -14,7 +14,6 @@ pub fn key_or(value: Option<&str>) -> Option<FigureKey>
     }
 }
 
-/// The figure of a name.
 #[tactic(auto, unfolding(crate::specs::KeyWords::key_named))]
 fn key_named(name: &str) -> Option<FigureKey>
     ensures { result ≡ key_named name.now }

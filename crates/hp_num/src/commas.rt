@@ -35,7 +35,7 @@ pub fn put_commas(out: &mut Vec<u8>, n: u64) -> Result<(), NoMemory>
     put_bytes(out, &text[..end])
 }
 
-// Writes the digits with their commas at the front of `text`, and answers where they end.
+/// Writes the digits with their commas at the front of `text`, and answers where they end.
 fn write_with_commas(text: &mut [u8; MAX_TEXT], digits: &[u8]) -> usize
     requires { length (with_commas digits.now) ≤ 26 }
     ensures end { result ≤ 26 }
@@ -55,7 +55,7 @@ fn write_with_commas(text: &mut [u8; MAX_TEXT], digits: &[u8]) -> usize
     end
 }
 
-// Whether so many digits are full groups of three, one at least.
+/// Whether so many digits are full groups of three, one at least.
 fn are_full_groups(count: usize) -> bool
     ensures { result ≡ is_full_groups count }
 {

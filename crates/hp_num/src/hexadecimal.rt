@@ -56,7 +56,7 @@ pub fn put_hex(out: &mut Vec<u8>, n: u64) -> Result<(), NoMemory>
     put_bytes(out, &buffer[start..])
 }
 
-// Writes the digits of `n` before a place of `buffer`, and answers where they start.
+/// Writes the digits of `n` before a place of `buffer`, and answers where they start.
 #[inline(always)]
 pub(crate) fn write_digits(buffer: &mut [u8], end: usize, n: u64) -> usize
     requires held { end ≤ length buffer.old }

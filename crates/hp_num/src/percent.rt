@@ -34,7 +34,7 @@ pub fn parse_percent(text: &[u8]) -> Option<u64>
     Some(hundredths)
 }
 
-// The place of the first point, or the length.
+/// The place of the first point, or the length.
 fn point_place(text: &[u8]) -> usize
     ensures before { All (λ b. b ≢ 46) (take result text.now) }
     ensures found { result < length text.now → slice_index text.now result ≡ 46 }
@@ -45,7 +45,7 @@ fn point_place(text: &[u8]) -> usize
         .unwrap_or(text.len())
 }
 
-// The hundredths that a point and 1 or 2 digits write, or nothing.
+/// The hundredths that a point and 1 or 2 digits write, or nothing.
 fn parse_fraction(rest: &[u8]) -> Option<u64>
     ensures parsed { result
         ≡ (if is_fraction rest.now then Some (fraction_value rest.now) else None) }
@@ -108,7 +108,7 @@ pub fn put_percent(out: &mut Vec<u8>, hundredths: u64) -> Result<(), NoMemory>
     put_bytes(out, &text)
 }
 
-// The decimal digit of a number below 10.
+/// The decimal digit of a number below 10.
 fn digit(value: u32) -> u8
     requires { value < 10 }
     ensures { result ≡ 48 + value }

@@ -6,5 +6,5 @@ abbrev pub next_count : ℕ → ℕ
 next_count count = min (count + 1) (2 ^ 64 - 1)
 
 -- a count of faults rose, or stands at the end of a `u64`
-abbrev pub Rose : ℕ → ℕ → Type 0
-Rose before now = next_count before ≤ now
+abbrev pub Faulted : ℕ → ℕ → Type 0
+Faulted before now = next_count before ≤ now

@@ -6,7 +6,7 @@ use Rattle.hp_outside.specs.declared.span.LineFault.{LineFault}
 use Rattle.hp_outside.specs.declared.span.LineFault.TheVariants.{ReadFailed}
 use Rattle.hp_outside.specs.declared.span.Span.{Span}
 use Rattle.hp_outside.specs.declared.store.Store as store
-use Rattle.hp_outside.specs.Faults.{Rose}
+use Rattle.hp_outside.specs.Faults.{Faulted}
 use Rattle.hp_outside.specs.LineReaderState.{LineReaderState}
 use Rattle.hp_outside.specs.NextLine.{GivesLine, IsUndecided, NextAnswer, has_line_feed}
 use Rattle.hp_outside.specs.Taken.{WhereTold}
@@ -36,7 +36,7 @@ pub record OnlyReads {S : Type 0} (g : store.Ghosts S) (before now : S)
   pub decided : ¬ (IsUndecided old.input old.line_limit old.passed old.kept) → now ≡ before
   pub unread : old.ended ≡ true → now ≡ before
   -- a read failed exactly where the result says so
-  pub failed : old.fault ≡ None → result ≡ Err ReadFailed → Rose (g.faults before) (g.faults now)
+  pub failed : old.fault ≡ None → result ≡ Err ReadFailed → Faulted (g.faults before) (g.faults now)
   pub sound : result ≢ Err ReadFailed → g.faults now ≡ g.faults before
   pub end : new.ended ≡ true → WhereTold (g.left now) (λ bytes. bytes ≡ [])
 

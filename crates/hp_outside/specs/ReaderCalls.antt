@@ -8,7 +8,7 @@ use Rattle.hp_outside.specs.declared.span.LineFault.{LineFault}
 use Rattle.hp_outside.specs.declared.span.LineFault.TheVariants.{ReadFailed}
 use Rattle.hp_outside.specs.declared.span.Span.{Span}
 use Rattle.hp_outside.specs.declared.store.Store as store
-use Rattle.hp_outside.specs.Faults.{Rose}
+use Rattle.hp_outside.specs.Faults.{Faulted}
 use Rattle.hp_outside.specs.LineReaderState.{LineReaderState}
 use Rattle.hp_outside.specs.Taken.{WhereTold}
 
@@ -92,6 +92,6 @@ pub record TakesMore {S : Type 0} (g : store.Ghosts S) (before now : S) (old new
   pub end : OnOk result (new.ended ≡ true → WhereTold (g.left now) (λ bytes. bytes ≡ []))
   pub end_kept : OnOk result (new.ended ≡ true → new.kept ≡ old.kept)
   pub failed : IfErr result
-      (λ fault. (fault ≡ ReadFailed) × Rose (g.faults before) (g.faults now))
+      (λ fault. (fault ≡ ReadFailed) × Faulted (g.faults before) (g.faults now))
   pub still : OnErr result (new.ended ≡ old.ended)
   pub kept : OnErr result (new.kept ≡ old.kept)

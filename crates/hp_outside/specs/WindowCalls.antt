@@ -4,7 +4,7 @@ use Rattle.std.specs.Prelude.{OnErr, OnOk}
 use Rattle.std.specs.Io.KnownBytes.{prepend_known}
 use Rattle.hp_outside.specs.declared.store.Failed.{Failed}
 use Rattle.hp_outside.specs.declared.store.Store as store
-use Rattle.hp_outside.specs.Faults.{Rose}
+use Rattle.hp_outside.specs.Faults.{Faulted}
 use Rattle.hp_outside.specs.Taken.{WhereTold}
 use Rattle.hp_outside.specs.WindowState.{WindowState, part_of}
 
@@ -24,7 +24,7 @@ pub record ReadsPart {S Z : Type 0} (g : store.Ghosts S) (before now : S) (new :
   pub end : IfOk result (λ count. count ≡ 0 → WhereTold (g.left before) (λ bytes. bytes ≡ []))
   pub left : OnErr result (g.left now ≡ g.left before)
   pub sound : OnOk result (g.faults now ≡ g.faults before)
-  pub failed : OnErr result (Rose (g.faults before) (g.faults now))
+  pub failed : OnErr result (Faulted (g.faults before) (g.faults now))
 
 -- the window keeps more bytes of the file, at most so many, or a read failed and it keeps what it kept
 pub record Fills {S : Type 0} (g : store.Ghosts S) (before now : S) (old new : WindowState)
@@ -38,7 +38,7 @@ pub record Fills {S : Type 0} (g : store.Ghosts S) (before now : S) (old new : W
   pub kept : OnErr result (new.kept ≡ old.kept)
   pub left : OnErr result (g.left now ≡ g.left before)
   pub sound : OnOk result (g.faults now ≡ g.faults before)
-  pub failed : OnErr result (Rose (g.faults before) (g.faults now))
+  pub failed : OnErr result (Faulted (g.faults before) (g.faults now))
 
 -- what stood from one place up to another in the buffer stands at a place with room for a read behind it
 pub record MakesRoom {Z : Type 0} (old new : Vec ℕ Z) (start end place : ℕ) : Type 0 where

@@ -2,7 +2,7 @@
 //! judged elsewhere; how bytes are kept between reads too.
 ghost use Rattle.std.specs.Prelude.{◌≡◌, ◌≢◌, ◌+◌, ◌-◌, ◌<◌, ◌≤◌, [], ◌⊎◌, None, Some, Option, IsTrue, IfOk, IfErr, IfSome, IfNone, IsSome, OnOk, OnErr, ◌↔◌, is_some, is_ok, true, false, length, take, drop, if◌then◌else◌, ◌++◌, ℕ, List, All, nat_eq, min};
 ghost use Rattle.std.specs.Io.KnownBytes.{prepend_known};
-ghost use Rattle.hp_outside.specs.Faults.{Rose};
+ghost use Rattle.hp_outside.specs.Faults.{Faulted};
 ghost use Rattle.hp_outside.specs.Taken.{WhereTold};
 ghost use Rattle.hp_outside.specs.LineReaderState.{LineReaderState};
 ghost use Rattle.hp_outside.specs.Lines.{lines_of};

@@ -1,7 +1,7 @@
 //! What a program writes to. Where the bytes go is each sink's own matter.
 ghost use Rattle.std.specs.Prelude.{◌≡◌, ◌<◌, ◌≤◌, ℕ, List, Option, IfOk, OnOk, OnErr, length, take};
 ghost use Rattle.std.specs.Io.KnownBytes.{append_known};
-ghost use Rattle.hp_outside.specs.Faults.{Rose};
+ghost use Rattle.hp_outside.specs.Faults.{Faulted};
 
 use crate::store::Failed;
 
@@ -29,7 +29,7 @@ pub trait Sink {
             (λ count. written self.new ≡ append_known (written self.old) (take count piece.now)) }
         ensures kept { OnErr result (written self.new ≡ written self.old) }
         ensures sound { OnOk result (faults self.new ≡ faults self.old) }
-        ensures failed { OnErr result (Rose (faults self.old) (faults self.new)) };
+        ensures failed { OnErr result (Faulted (faults self.old) (faults self.new)) };
 
     /// Passes on what the sink holds back, if it holds anything back. It takes no bytes.
     ///
@@ -38,5 +38,5 @@ pub trait Sink {
         ensures faults { faults self.old ≤ faults self.new }
         ensures kept { written self.new ≡ written self.old }
         ensures sound { OnOk result (faults self.new ≡ faults self.old) }
-        ensures failed { OnErr result (Rose (faults self.old) (faults self.new)) };
+        ensures failed { OnErr result (Faulted (faults self.old) (faults self.new)) };
 }

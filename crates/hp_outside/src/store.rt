@@ -3,7 +3,7 @@
 ghost use Rattle.std.specs.Prelude.{◌≡◌, ◌+◌, ◌-◌, ◌^◌, ◌<◌, ◌≤◌, ◌↔◌, ℕ, Bool, List, [], None, Option, IsTrue, IsSome, IfOk, OnOk, OnErr, is_ok, length, take};
 ghost use Rattle.std.specs.Io.KnownBytes.{prepend_known};
 ghost use Rattle.hp_outside.specs.Folder.{Folder, file_of};
-ghost use Rattle.hp_outside.specs.Faults.{Rose};
+ghost use Rattle.hp_outside.specs.Faults.{Faulted};
 ghost use Rattle.hp_outside.specs.FaultTexts.{open_text};
 ghost use Rattle.hp_outside.specs.Taken.{WhereTold};
 
@@ -74,8 +74,8 @@ pub trait Store {
             (λ folder. (result ≡ Err OpenFault.Absent) ↔ (file_of folder name.now ≡ None)) }
         ensures sound { OnOk result (faults self.new ≡ faults self.old) }
         ensures absent_untold { files self.old ≡ None → result ≡ Err OpenFault.Absent
-            → Rose (faults self.old) (faults self.new) }
-        ensures failed { result ≡ Err OpenFault.Failed → Rose (faults self.old) (faults self.new) };
+            → Faulted (faults self.old) (faults self.new) }
+        ensures failed { result ≡ Err OpenFault.Failed → Faulted (faults self.old) (faults self.new) };
 
     /// Fills a front of the buffer with the next bytes of the current file and answers their
     /// number; 0 is the end of the file. After a failed read the file stands where it stood, and
@@ -96,7 +96,7 @@ pub trait Store {
             (λ count. count ≡ 0 → WhereTold (left self.old) (λ bytes. bytes ≡ [])) }
         ensures kept { OnErr result (left self.new ≡ left self.old) }
         ensures sound { OnOk result (faults self.new ≡ faults self.old) }
-        ensures failed { OnErr result (Rose (faults self.old) (faults self.new)) };
+        ensures failed { OnErr result (Faulted (faults self.old) (faults self.new)) };
 
     /// A store that tells its files tells what is left wherever a file is current.
     ghost tells_left: { (s : Self) → IsSome (files s) → IsTrue (current s) → IsSome (left s) };

@@ -96,7 +96,6 @@ impl SureStore {
     }
 }
 
-/// The number of the file with this name.
 fn file_number(files: &Vec<HeldFile>, name: &[u8]) -> Option<usize>
     ensures { MatchOption result (file_of (folder_of files.now.items) name.now ≡ None)
         (λ number. (number < length files.now.items)

@@ -2,7 +2,7 @@
 //! slice into a sink. Neither looks at a byte.
 ghost use Rattle.std.specs.Prelude.{◌≡◌, ◌≢◌, ◌+◌, ◌^◌, ◌<◌, ◌≤◌, ℕ, List, [], IsTrue, IfOk, OnOk, OnErr, length, vec_len, take};
 ghost use Rattle.std.specs.Io.KnownBytes.{append_known, prepend_known};
-ghost use Rattle.hp_outside.specs.Faults.{Rose};
+ghost use Rattle.hp_outside.specs.Faults.{Faulted};
 ghost use Rattle.hp_outside.specs.FaultTexts.{whole_text};
 ghost use Rattle.hp_outside.specs.Taken.{WhereTold, LosesFront, GainsFront, GainsCutFront};
 ghost use Rattle.hp_outside.specs.Whole.{WholeAnswer};
@@ -106,7 +106,7 @@ pub fn read_whole<S: Store>(
     ensures within { IfOk result (λ whole. length whole ≤ limits.now.input) }
     ensures ended { OnOk result (WhereTold (S.left store.new) (λ bytes. bytes ≡ [])) }
     ensures failed { result ≡ Err WholeFault.ReadFailed
-        → Rose (S.faults store.old) (S.faults store.new) }
+        → Faulted (S.faults store.old) (S.faults store.new) }
     ensures sound { result ≢ Err WholeFault.ReadFailed → S.faults store.new ≡ S.faults store.old }
     ensures taken { LosesFront (S.left store.old) (S.left store.new) (limits.now.input + 1) }
 {
@@ -154,7 +154,7 @@ pub fn write_whole<O: Sink>(sink: &mut O, bytes: &[u8]) -> Result<(), Failed>
     ensures front { GainsFront (O.written sink.old) (O.written sink.new) bytes.now }
     ensures cut { OnErr result (GainsCutFront (O.written sink.old) (O.written sink.new) bytes.now) }
     ensures sound { OnOk result (O.faults sink.new ≡ O.faults sink.old) }
-    ensures failed { OnErr result (Rose (O.faults sink.old) (O.faults sink.new)) }
+    ensures failed { OnErr result (Faulted (O.faults sink.old) (O.faults sink.new)) }
 {
     let mut done = 0;
     'pieces: while done < bytes.len() {

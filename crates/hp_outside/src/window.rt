@@ -2,7 +2,7 @@
 //! behind it that were taken from the store.
 ghost use Rattle.std.specs.Prelude.{◌≡◌, ◌+◌, ◌*◌, ◌<◌, ◌≤◌, ℕ, [], IsTrue, IfOk, OnOk, OnErr, length, vec_len, vec_capacity, take, drop, ◌-◌};
 ghost use Rattle.std.specs.Io.KnownBytes.{prepend_known};
-ghost use Rattle.hp_outside.specs.Faults.{Rose};
+ghost use Rattle.hp_outside.specs.Faults.{Faulted};
 ghost use Rattle.hp_outside.specs.Taken.{WhereTold};
 ghost use Rattle.hp_outside.specs.StoreCalls.{ReadsOn};
 ghost use Rattle.hp_outside.specs.WindowCalls.{Fills, KeepsFront, MakesRoom, ReadsPart};

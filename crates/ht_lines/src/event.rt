@@ -34,7 +34,7 @@ pub struct EventLine {
 /// every file version. It takes no memory.
 ///
 /// `None` promises nothing, and then `read_item` judges the line. It always comes where there are fewer than 11 bytes.
-// Each loop over such lines has the walk in its body.
+/// Each loop over such lines has the walk in its body.
 #[inline(always)]
 pub fn event_line(bytes: &[u8]) -> Option<EventLine>
     ensures { IfSome result (λ event. BeginsWithEvent bytes.now event) }

@@ -122,7 +122,6 @@ pub fn split_at_blank(text: &[u8]) -> (&[u8], &[u8])
     text.split_at(end)
 }
 
-/// The place of the first blank.
 fn first_blank(text: &[u8]) -> Option<usize>
     ensures place { result ≡ position is_blank text.now }
     ensures within { IfSome result (λ place. place < length text.now) }

@@ -37,7 +37,7 @@ pub struct RawLine {
 /// says for the line in every file version. It takes no memory.
 ///
 /// `None` promises nothing, and then `read_item` judges the line. It always comes where there are fewer than 53 bytes.
-// Each loop over such lines has the walk in its body.
+/// Each loop over such lines has the walk in its body.
 #[inline(always)]
 pub fn raw_line(bytes: &[u8]) -> Option<RawLine>
     ensures { IfSome result (λ found. BeginsWithRaw bytes.now found) }
@@ -51,7 +51,6 @@ pub fn raw_line(bytes: &[u8]) -> Option<RawLine>
     }
 }
 
-/// The line of an allocation.
 #[inline(always)]
 fn allocation_line(front: &[u8; LONGEST]) -> Option<RawLine>
     requires { get_or front.now 0 0 ≡ 43 }
@@ -69,7 +68,6 @@ fn allocation_line(front: &[u8; LONGEST]) -> Option<RawLine>
     })
 }
 
-/// The line of a free.
 #[inline(always)]
 fn free_line(front: &[u8; LONGEST]) -> Option<RawLine>
     requires { get_or front.now 0 0 ≡ 45 }
@@ -85,7 +83,6 @@ fn free_line(front: &[u8; LONGEST]) -> Option<RawLine>
     })
 }
 
-/// The line of a node.
 #[inline(always)]
 fn node_line(front: &[u8; LONGEST]) -> Option<RawLine>
     requires { get_or front.now 0 0 ≡ 116 }

@@ -95,7 +95,6 @@ fn is_foreign(form: Form, kind: u8) -> bool
     }
 }
 
-/// The item of a line.
 fn read_line(form: Form, version: u8, line: &[u8]) -> Result<Item<'_>, Malformed>
     requires { length line.now < 2 ^ 32 }
     ensures exact { Gives result (reading form version line.now) }

@@ -8,7 +8,7 @@ ghost use Rattle.ht_print.specs.FlameText.{flame_of_lists, flame_of_trace, flame
 
 use crate::costs::stack_costs;
 use crate::flame_lines::FlameLines;
-use cost_tree::ToldLists;
+use cost_tree::CallerLists;
 use hp_num::NoMemory;
 use ht_trace::{Style, Tables};
 use peak_costs::Peaks;
@@ -58,7 +58,7 @@ pub fn put_flame(
 /// There must be a cost for each list, and they sum to at most 2^62. On `NoMemory`, `out` holds what it held before.
 pub fn put_flame_of_lists(
     alloc: Global,
-    lists: ToldLists,
+    lists: CallerLists,
     costs: Vec<u64>,
     out: &mut Vec<u8>,
 ) -> Result<(), NoMemory>

@@ -11,7 +11,7 @@ ghost use Rattle.stack_table.specs.Stack.{most_frames};
 
 use crate::flame_nodes::{line_nodes, longest_line};
 use crate::front_text::FrontText;
-use cost_tree::{CostTree, ToldLists};
+use cost_tree::{CallerLists, CostTree};
 use hp_num::{NoMemory, put_bytes, put_dec};
 use stack_table::MOST_FRAMES;
 use std::alloc::Global;
@@ -46,7 +46,7 @@ impl FlameLines {
     /// There must be a cost for each list, and they sum to at most 2^62.
     pub fn of_lists(
         alloc: Global,
-        lists: ToldLists,
+        lists: CallerLists,
         costs: Vec<u64>,
     ) -> Result<FlameLines, NoMemory>
         requires as_many { length costs.items ≡ length lists }

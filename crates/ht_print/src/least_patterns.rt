@@ -54,7 +54,6 @@ fn all_patterns(alloc: Global, tables: &Tables) -> Result<Vec<&[u8]>, NoMemory>
     Ok(all)
 }
 
-/// The pattern at a place, from 0.
 fn pattern(tables: &Tables, place: u32) -> &[u8]
     requires held { place < length tables.now.patterns }
     requires few { place < 2 ^ 32 - 1 }
@@ -91,7 +90,6 @@ fn begins_with_last(least: &[&[u8]], pattern: &[u8]) -> bool
     }
 }
 
-/// Whether the text begins with one of the patterns.
 fn begins_with_one(patterns: &[&[u8]], text: &[u8]) -> bool
     requires apart { AreApart (λ pattern. pattern.now) patterns.now }
     ensures { result ≡ begins_any (λ pattern. pattern.now) patterns.now text.now }

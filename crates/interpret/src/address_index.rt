@@ -55,7 +55,7 @@ impl AddressIndex {
         Ok(())
     }
 
-    // Removes the changes from an address on up to another.
+    /// Removes the changes from an address on up to another.
     fn remove_within(&mut self, begin: u64, end: u64)
         requires some { begin < end }
         ensures { RemovesWithin self.old self.new begin end }
@@ -65,7 +65,7 @@ impl AddressIndex {
         }
     }
 
-    // The first change from an address on up to another.
+    /// The first change from an address on up to another.
     fn first_within(&self, begin: u64, end: u64) -> Option<u64>
         requires some { begin < end }
         ensures low { IfSome result (λ from. begin ≤ from) }

@@ -17,7 +17,7 @@ impl Interpreter {
     /// in its usual form with its line feed, is an allocation of a pair of a size and a node that is held, a free, or a node
     /// of an address that has a number, has no fault, and no memory is wanting. It answers how many bytes the line has with
     /// its line feed. Where it answers `None`, nothing was read and nothing is given. A version line was read before.
-    // The loop over it has the whole walk in its body.
+    /// The loop over it has the whole walk in its body.
     #[inline(always)]
     pub fn take_front(&mut self, ready: &[u8], out: &mut Vec<u8>) -> Option<usize>
         ensures taken { IfSome result
@@ -38,7 +38,7 @@ impl Interpreter {
         None
     }
 
-    // Takes what a line says, and answers whether it was taken.
+    /// Takes what a line says, and answers whether it was taken.
     #[inline(always)]
     fn take_event(&mut self, says: RawEvent, out: &mut Vec<u8>) -> bool
         ensures { TriesSaid self.old self.new (raw_content says) out.old out.new result }
@@ -50,7 +50,7 @@ impl Interpreter {
         }
     }
 
-    // Takes an allocation of a pair that is held.
+    /// Takes an allocation of a pair that is held.
     #[inline(always)]
     fn allocate_held(&mut self, size: u64, trace: u64, ptr: u64, out: &mut Vec<u8>) -> bool
         ensures { TriesSaid self.old self.new (raw_allocation_line size trace ptr) out.old out.new
@@ -65,7 +65,7 @@ impl Interpreter {
         }
     }
 
-    // Takes a node of an address that has a number.
+    /// Takes a node of an address that has a number.
     fn add_known_node(&mut self, ip: u64, parent: u64, out: &mut Vec<u8>) -> bool
         ensures { TriesSaid self.old self.new (node_line ip parent) out.old out.new result }
     {

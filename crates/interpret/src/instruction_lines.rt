@@ -34,7 +34,7 @@ pub fn add_names(
     add_frames(names, version, found.texts, out)
 }
 
-// Adds the name of a module, where there is one.
+/// Adds the name of a module, where there is one.
 fn add_module_name(
     names: &mut NameTable,
     version: u8,
@@ -51,7 +51,7 @@ fn add_module_name(
     }
 }
 
-// Adds the names of the frames that the texts of a symbol say.
+/// Adds the names of the frames that the texts of a symbol say.
 fn add_frames(
     names: &mut NameTable,
     version: u8,
@@ -71,7 +71,6 @@ fn add_frames(
     Ok(())
 }
 
-// Adds the names of a frame.
 fn add_frame(
     names: &mut NameTable,
     version: u8,
@@ -89,7 +88,6 @@ fn add_frame(
     }
 }
 
-// Adds a name.
 fn add_name(
     names: &mut NameTable,
     version: u8,
@@ -125,7 +123,7 @@ pub fn put_instruction(
     put_bytes(out, b"\n")
 }
 
-// The number of a module's name, and 0 for none.
+/// The number of a module's name, and 0 for none.
 fn module_number(names: &NameTable, name: Option<&[u8]>) -> u64
     ensures { result ≡ module_number names.now (option_copied name.entry) }
 {
@@ -135,7 +133,7 @@ fn module_number(names: &NameTable, name: Option<&[u8]>) -> u64
     }
 }
 
-// Appends the numbers of the frames that the texts of a symbol say.
+/// Appends the numbers of the frames that the texts of a symbol say.
 fn put_frames(names: &NameTable, texts: Option<&[u8]>, out: &mut Vec<u8>) -> Result<(), NoMemory>
     ensures appended { OnOk result
         (AppendsNumbers (numbers_in names.now texts.entry) out.old out.new) }
@@ -150,7 +148,7 @@ fn put_frames(names: &NameTable, texts: Option<&[u8]>, out: &mut Vec<u8>) -> Res
     Ok(())
 }
 
-// Appends the numbers of a frame.
+/// Appends the numbers of a frame.
 fn put_frame(names: &NameTable, frame: &SymbolFrame, out: &mut Vec<u8>) -> Result<(), NoMemory>
     ensures appended { OnOk result
         (AppendsNumbers (numbers_of_frame names.now frame.now) out.old out.new) }
@@ -166,7 +164,7 @@ fn put_frame(names: &NameTable, frame: &SymbolFrame, out: &mut Vec<u8>) -> Resul
     }
 }
 
-// Appends a number after a blank.
+/// Appends a number after a blank.
 fn put_number(out: &mut Vec<u8>, n: u64) -> Result<(), NoMemory>
     ensures appended { OnOk result (AppendsNumbers (n ∷ []) out.old out.new) }
     ensures kept { Extends out.old.items out.new.items }

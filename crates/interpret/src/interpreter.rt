@@ -139,7 +139,7 @@ impl Interpreter {
         Ok(())
     }
 
-    // Reads the next line. After an error more bytes may stand at the end of `out`.
+    /// Reads the next line. After an error more bytes may stand at the end of `out`.
     fn take_line(&mut self, line: &[u8], out: &mut Vec<u8>) -> Result<(), LineError>
         requires { length line.now < 2 ^ 32 }
         ensures read { OnOk result
@@ -154,7 +154,7 @@ impl Interpreter {
         self.take(line, &item, out)
     }
 
-    // Takes what a line says.
+    /// Takes what a line says.
     fn take(&mut self, line: &[u8], item: &Item, out: &mut Vec<u8>) -> Result<(), LineError>
         requires writable { IsWritable Raw (unwrap_or self.old.version 1) (content item.now) }
         ensures answers { TakesOrRefuses self.old self.new line.now (content item.now) out.old
@@ -193,7 +193,7 @@ impl Interpreter {
         }
     }
 
-    // Keeps a fault after which no line is taken.
+    /// Keeps a fault after which no line is taken.
     fn keep_fault(&mut self, error: LineError)
         ensures kept { self.new ≡ record self.old { failed = failed_with self.old.failed error } }
     {
@@ -296,7 +296,7 @@ impl Interpreter {
     }
 }
 
-// Appends a line as it is, and its line feed. On `NoMemory`, a part of it may stand at the end of `out`.
+/// Appends a line as it is, and its line feed. On `NoMemory`, a part of it may stand at the end of `out`.
 fn put_line(out: &mut Vec<u8>, line: &[u8]) -> Result<(), LineError>
     ensures appended { OnOk result (out.new.items ≡ out.old.items ++ text_of (line.now ∷ [])) }
     ensures only { IfErr result (λ error. error ≡ LineError.NoMemory) }

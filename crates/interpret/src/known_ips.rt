@@ -67,7 +67,7 @@ impl KnownIps {
         self.find_some(ip)
     }
 
-    // The same for an address that isn't 0.
+    /// The same for an address that isn't 0.
     fn find_some(&self, ip: u64) -> Option<Numbered>
         requires some { ip ≢ 0 }
         ensures none { IfNone result (list_any (λ k. ip == k.ip) self.now ≡ false) }

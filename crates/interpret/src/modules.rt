@@ -101,7 +101,7 @@ impl ModuleList {
     }
 }
 
-// The ranges of a module line.
+/// The ranges of a module line.
 fn read_ranges(alloc: Global, start: u64, tail: &[u8]) -> Result<Vec<AddressRange>, NoMemory>
     requires fit { RangesFit start (numbers tail.now) }
     ensures { IfOk result (λ ranges. ranges.items ≡ ranges_in start tail.now) }
@@ -115,7 +115,7 @@ fn read_ranges(alloc: Global, start: u64, tail: &[u8]) -> Result<Vec<AddressRang
     Ok(ranges)
 }
 
-// The range of the first two numbers of a tail, and what follows them.
+/// The range of the first two numbers of a tail, and what follows them.
 fn next_range(start: u64, tail: &[u8]) -> Option<(AddressRange, &[u8])>
     requires fit { RangesFit start (numbers tail.now) }
     ensures none { IfNone result (ranges_in start tail.now ≡ []) }
@@ -134,7 +134,7 @@ fn next_range(start: u64, tail: &[u8]) -> Option<(AddressRange, &[u8])>
     Some((range, after))
 }
 
-// Puts the module at a place over all others, in each of its ranges.
+/// Puts the module at a place over all others, in each of its ranges.
 fn put_ranges(
     index: &mut AddressIndex,
     ranges: &[AddressRange],

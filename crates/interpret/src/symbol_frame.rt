@@ -40,7 +40,7 @@ pub fn next_frame(texts: &[u8]) -> (SymbolFrame<'_>, Option<&[u8]>)
     (SymbolFrame { function, place }, rest)
 }
 
-// The frame of a function alone.
+/// The frame of a function alone.
 fn without_place(function: &[u8]) -> SymbolFrame<'_>
     ensures { frame_kept result ≡ record { function = function.now; place = None } }
 {

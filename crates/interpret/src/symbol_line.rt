@@ -28,7 +28,6 @@ pub fn next_field(text: &[u8]) -> (&[u8], Option<&[u8]>)
     }
 }
 
-// The place of the first tab.
 fn first_tab(text: &[u8]) -> Option<usize>
     ensures place { result ≡ position is_tab text.now }
     ensures within { IfSome result (λ place. place < length text.now) }
@@ -59,7 +58,7 @@ pub fn read_symbol(line: &[u8]) -> Option<SymbolLine<'_>>
     })
 }
 
-// Whether the texts are a function alone, or a function, a file and a line for each frame.
+/// Whether the texts are a function alone, or a function, a file and a line for each frame.
 fn are_texts(texts: &[u8]) -> bool
     ensures { result ≡ are_texts (fields texts.now) }
 {
@@ -70,7 +69,7 @@ fn are_texts(texts: &[u8]) -> bool
     }
 }
 
-// Whether the texts are a function, a file and a line for each frame.
+/// Whether the texts are a function, a file and a line for each frame.
 fn are_frames(texts: &[u8]) -> bool
     ensures { result ≡ are_frames (fields texts.now) }
 {

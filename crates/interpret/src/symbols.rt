@@ -95,7 +95,7 @@ impl Symbols {
         Some(entry.texts.bytes())
     }
 
-    // Adds the symbol of a line.
+    /// Adds the symbol of a line.
     fn add(&mut self, said: &SymbolLine) -> Result<(), SymbolFault>
         requires some { said.now.start < said.now.end }
         ensures added { OnOk result (self.new ≡ self.old ++ said_by said.now ∷ []) }
@@ -128,7 +128,7 @@ impl Symbols {
     }
 }
 
-// The last symbol of a module that doesn't start above an offset.
+/// The last symbol of a module that doesn't start above an offset.
 fn last_entry<'a>(
     entries: &'a [SymbolEntry],
     starts: &StartIndex,
@@ -143,14 +143,13 @@ fn last_entry<'a>(
     entry(entries, last.place)
 }
 
-// The entry at a place.
 fn entry(entries: &[SymbolEntry], place: usize) -> Option<&SymbolEntry>
     ensures { option_copied result ≡ slice_get entries.now place }
 {
     entries.get(place)
 }
 
-// Whether a symbol of the module has an offset in common with a range.
+/// Whether a symbol of the module has an offset in common with a range.
 fn meets_any(
     entries: &[SymbolEntry],
     starts: &StartIndex,
@@ -168,7 +167,7 @@ fn meets_any(
     }
 }
 
-// The symbol that holds an offset of a module.
+/// The symbol that holds an offset of a module.
 fn entry_at<'a>(
     entries: &'a [SymbolEntry],
     starts: &StartIndex,
@@ -185,7 +184,7 @@ fn entry_at<'a>(
     Some(last)
 }
 
-// Whether a line says nothing: it is empty or a comment.
+/// Whether a line says nothing: it is empty or a comment.
 fn is_skipped(line: &[u8]) -> bool
     ensures { result ≡ is_skipped line.now }
 {

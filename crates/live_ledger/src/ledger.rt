@@ -119,7 +119,7 @@ impl Ledger {
     /// No memory is taken.
     ///
     /// What the event must be, and when each fault comes, is as in `check`. A `Tick` changes nothing.
-    // The kind of the event is known at most calls.
+    /// The kind of the event is known at most calls.
     #[inline(always)]
     pub fn apply(&mut self, event: Event) -> Result<(), EventFault>
         requires held { IsHeld self.old event }

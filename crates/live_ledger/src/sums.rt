@@ -7,7 +7,7 @@ use crate::figures::Figures;
 use crate::totals::Totals;
 
 /// The sums over some events.
-// No event adds to two neighbours, which a compiler would put into one wide number, add to and take apart again.
+/// No event adds to two neighbours, which a compiler would put into one wide number, add to and take apart again.
 #[derive(Clone, Copy)]
 pub struct Sums {
     pub frees: u64,

@@ -24,7 +24,7 @@ use std::marker::Model;
 const MAX_ALLOCATED: u64 = 0x4000_0000_0000_0000;
 
 /// One info: the stack and the size of its blocks, how many of them are live, and how many were allocated.
-// The counts are apart for the reason that sums are.
+/// The counts are apart for the reason that sums are.
 #[derive(Clone, Copy)]
 struct InfoEntry {
     blocks: u64,
@@ -141,7 +141,7 @@ impl TotalsLedger {
     ///
     /// What the event must be, and when each fault comes, is as in `check`; fewer than 2^32 events were taken
     /// before. A `Tick` changes nothing.
-    // The kind of the event is known at most calls.
+    /// The kind of the event is known at most calls.
     #[inline(always)]
     pub fn apply(&mut self, event: Event) -> Result<(), EventFault>
         requires held { IsHeld (ledger_of self.old) event }

@@ -97,7 +97,7 @@ impl<T: Drop> SnapArray<T> {
     }
 
     /// Whether `offer` would take the offer, and as what. It changes nothing, and needs of the offer what `offer` needs.
-    // Nearly every offer is refused, by one test of a number that changes only where a snapshot is taken.
+    /// Nearly every offer is refused, by one test of a number that changes only where a snapshot is taken.
     #[inline(always)]
     pub fn judge(&self, offer: &Offer) -> Taken
         requires in_order { last_time self.now.kept.entries ≤ offer.now.time }
@@ -373,7 +373,6 @@ fn normal_from<T: Drop>(snaps: &LinkedSnaps<T>, interval: u64) -> u64
     }
 }
 
-/// The entry of an offer.
 fn snapshot(offer: &Offer, kind: Kind) -> SnapEntry
     ensures { result ≡ entry_of offer.now kind }
 {

@@ -62,7 +62,7 @@ impl Levels {
     }
 }
 
-// Ends the innermost levels at which no line is to come.
+/// Ends the innermost levels at which no line is to come.
 fn drop_done(to_come: &mut Vec<u32>)
     ensures { reverse to_come.new.items ≡ without_done (reverse to_come.old.items) }
 {

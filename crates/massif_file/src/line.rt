@@ -64,7 +64,6 @@ pub fn key_number(key: &[u8], line: &[u8]) -> Result<u64, ProfileFault>
     }
 }
 
-/// The time unit of this name.
 #[tactic(auto, unfolding(crate::specs::Fields::unit_of))]
 fn unit_of(name: &[u8]) -> Option<TimeUnit>
     ensures { result ≡ unit_of name.now }

@@ -74,7 +74,7 @@ fn put_head(out: &mut Vec<u8>, n: u64, time: u64) -> Result<(), NoMemory>
     put_separated(out, b"time=", time)
 }
 
-// A separator, and a line of a key and a number.
+/// A separator, and a line of a key and a number.
 fn put_separated(out: &mut Vec<u8>, key: &[u8], n: u64) -> Result<(), NoMemory>
     ensures kept { KeepsFront out.old out.new }
     ensures appended { OnOk result
@@ -104,7 +104,7 @@ fn put_marked_tree(out: &mut Vec<u8>, snap: &Snap) -> Result<(), NoMemory>
     put_tree(out, &snap.tree)
 }
 
-// The line feed of the line before, and the lines of the tree.
+/// The line feed of the line before, and the lines of the tree.
 fn put_tree(out: &mut Vec<u8>, tree: &Tree) -> Result<(), NoMemory>
     ensures kept { KeepsFront out.old out.new }
     ensures appended { OnOk result
@@ -120,7 +120,7 @@ fn put_tree(out: &mut Vec<u8>, tree: &Tree) -> Result<(), NoMemory>
     put_bytes(out, b"\n")
 }
 
-// The line feed of the line before, and the line at this level but for its own line feed.
+/// The line feed of the line before, and the line at this level but for its own line feed.
 fn put_node(out: &mut Vec<u8>, level: usize, line: &TreeFields) -> Result<(), NoMemory>
     requires few { level < 2 ^ 63 }
     ensures kept { KeepsFront out.old out.new }
@@ -131,7 +131,7 @@ fn put_node(out: &mut Vec<u8>, level: usize, line: &TreeFields) -> Result<(), No
     put_bytes(out, line.label)
 }
 
-// What stands before the label of a line at this level, and before it the line feed of the line before.
+/// What stands before the label of a line at this level, and before it the line feed of the line before.
 fn put_front(out: &mut Vec<u8>, level: usize, children: u64, bytes: u64) -> Result<(), NoMemory>
     requires few { level < 2 ^ 63 }
     ensures kept { KeepsFront out.old out.new }
@@ -148,7 +148,7 @@ fn put_front(out: &mut Vec<u8>, level: usize, children: u64, bytes: u64) -> Resu
     put_bytes(out, &front[start..])
 }
 
-// The same part by part, for any level.
+/// The same part by part, for any level.
 fn put_parts(out: &mut Vec<u8>, level: usize, head: &[u8]) -> Result<(), NoMemory>
     requires few { level < 2 ^ 63 }
     ensures kept { KeepsFront out.old out.new }
@@ -198,7 +198,7 @@ fn put_blanks(out: &mut Vec<u8>, count: usize) -> Result<(), NoMemory>
     Ok(())
 }
 
-// A line of a key and a number.
+/// A line of a key and a number.
 fn put_number(out: &mut Vec<u8>, key: &[u8], n: u64) -> Result<(), NoMemory>
     ensures kept { KeepsFront out.old out.new }
     ensures appended { OnOk result
@@ -209,7 +209,6 @@ fn put_number(out: &mut Vec<u8>, key: &[u8], n: u64) -> Result<(), NoMemory>
     put_bytes(out, b"\n")
 }
 
-// A line of a key and a text.
 fn put_line(out: &mut Vec<u8>, key: &[u8], text: &[u8]) -> Result<(), NoMemory>
     ensures kept { KeepsFront out.old out.new }
     ensures appended { OnOk result

@@ -10,7 +10,7 @@ use massif_cull::Taken;
 
 /// Offers a snapshot of the present place, as a peak or not. Of one that has a tree it is kept what stacks cost here, by the
 /// closure. `NoMemory`, where memory is wanting for that, leaves the samples unfit for more.
-// What is refused ends here, in the body of each caller.
+/// What is refused ends here, in the body of each caller.
 #[inline(always)]
 pub(crate) fn sample<A: Fn(&[u8]) -> bool, F: Fn(u32) -> u64>(
     samples: &mut Samples,

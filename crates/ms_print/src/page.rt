@@ -70,7 +70,6 @@ fn put_asked(words: &[u8], profile: &Profile, out: &mut Vec<u8>) -> Result<(), N
     put_text(b"ms_print arguments: ", words, out)
 }
 
-/// Appends a line of a name and a text.
 fn put_text(name: &[u8], text: &[u8], out: &mut Vec<u8>) -> Result<(), NoMemory>
     ensures appended { Appends (named_line name.now text.now) out.old out.new result }
     ensures kept { Extends out.old.items out.new.items }

@@ -13,7 +13,7 @@ use Rattle.hp_num.specs.ParsedDec.{parsed_dec}
 use Rattle.record_scripts.specs.Job.{Job}
 use Rattle.record_book.specs.BookState.{stepped}
 use Rattle.record_book.specs.Spelled.{behind, named, number_of}
-use Rattle.order_check.specs.declared.verdict.LineRefusal.{LineRefusal}
+use Rattle.order_check.specs.declared.verdict.CheckRefusal.{CheckRefusal}
 use Rattle.order_check.specs.CheckState.{CheckState, HasTaken, following_of}
 use Rattle.order_check.specs.Following.{Following, are_done, events_at_end, followed, is_empty, is_front, whole_events}
 use Rattle.order_check.specs.Following.{with_line}
@@ -35,7 +35,7 @@ compared-is (b ∷ text) (suc count) within =
     eqb-suc-suc count (length text) ∙ compared-is text count (omega (arith, within))
 
 -- a line that is taken, or refused
-pub taken-line : (result : Result (Unit {0}) LineRefusal) (old new : CheckState) (line : List ℕ)
+pub taken-line : (result : Result (Unit {0}) CheckRefusal) (old new : CheckState) (line : List ℕ)
     → OnOk result (with_line old.job (following_of old) line ≡ Some (following_of new)) → new.job ≡ old.job
     → OnOk result ((lines : List (List ℕ)) → HasTaken old lines → HasTaken new (lines ++ line ∷ []))
 taken-line (Ok all) old new line stepped job = λ lines has.
@@ -43,7 +43,7 @@ taken-line (Ok all) old new line stepped job = λ lines has.
     (followed-push old.job lines line (following_of old) has ∙ stepped)
 taken-line (Err refusal) old new line stepped job = tt
 
-pub front-line : (result : Result (Unit {0}) LineRefusal) (old new : CheckState) (line : List ℕ)
+pub front-line : (result : Result (Unit {0}) CheckRefusal) (old new : CheckState) (line : List ℕ)
     → OnOk result (with_line old.job (following_of old) line ≡ Some (following_of new))
     → OnOk result ((lines : List (List ℕ)) → HasTaken old lines → is_front old.job (lines ++ line ∷ []) ≡ true)
 front-line (Ok all) old new line stepped =

@@ -2,8 +2,8 @@
 -- begun, what is kept of its recording, and what is to come of that.
 use Rattle.std.specs.Prelude.{◌≡◌, ℕ, Bool, List, Option, Some, None, Result, Err, OnOk}
 use Rattle.record_scripts.specs.Job.{Job}
-use Rattle.order_check.specs.declared.verdict.LineRefusal.{LineRefusal}
-use Rattle.order_check.specs.declared.verdict.LineRefusal.TheVariants.{NotRecorded}
+use Rattle.order_check.specs.declared.verdict.CheckRefusal.{CheckRefusal}
+use Rattle.order_check.specs.declared.verdict.CheckRefusal.TheVariants.{NotRecorded}
 use Rattle.order_check.specs.Following.{Following, at_place, followed, thread_for, turn_begun, whole_events, with_line}
 
 -- the scripts with their modules, the order of the turns that the lines have begun, the bytes of its recording that are kept,
@@ -31,7 +31,7 @@ abbrev pub turn_step : CheckState → List ℕ → Option Following
 turn_step check line = turn_begun check.job check.order (thread_for check.order line)
 
 -- a line is followed exactly so far, or refused where it can't be
-pub record FollowsLine (old new : CheckState) (line : List ℕ) (result : Result (Unit {0}) LineRefusal)
+pub record FollowsLine (old new : CheckState) (line : List ℕ) (result : Result (Unit {0}) CheckRefusal)
     : Type 0 where
   pub stepped : OnOk result (line_step old line ≡ Some (following_of new))
   pub refused : result ≡ Err NotRecorded → line_step old line ≡ None

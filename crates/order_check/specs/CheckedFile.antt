@@ -2,7 +2,7 @@
 use Rattle.std.specs.Prelude.{◌≡◌, ◌≢◌, ℕ, Result, Err}
 use Rattle.hp_outside.specs.declared.store.Store as store
 use Rattle.hp_outside.specs.declared.limits.Limits.{Limits}
-use Rattle.hp_outside.specs.Faults.{Rose}
+use Rattle.hp_outside.specs.Faults.{Faulted}
 use Rattle.hp_outside.specs.LineReaderState.{LineReaderState}
 use Rattle.hp_outside.specs.Taken.{WhereTold}
 use Rattle.record_scripts.specs.Job.{Job}
@@ -31,7 +31,7 @@ AnswersReader s lines job old new result = AnswersFile s lines.input lines.line_
 -- the file is only read, and a call failed exactly where the answer says so
 pub record OnlyReads {S : Type 0} (s : store.Ghosts S) (old new : S)
     (result : Result Verdict CheckFault) : Type 0 where
-  pub failed : result ≡ Err ReadFailed → Rose (s.faults old) (s.faults new)
+  pub failed : result ≡ Err ReadFailed → Faulted (s.faults old) (s.faults new)
   pub sound : result ≢ Err ReadFailed → s.faults new ≡ s.faults old
   pub files : s.files new ≡ s.files old
   pub current : s.current new ≡ s.current old

@@ -7,7 +7,7 @@ ghost use Rattle.order_check.specs.CheckedLines.{end_verdict};
 ghost use Rattle.order_check.specs.NewCheck.{IsNewCheck};
 
 use crate::order_check::OrderCheck;
-use crate::verdict::{CheckFault, LineRefusal, Verdict};
+use crate::verdict::{CheckFault, CheckRefusal, Verdict};
 use hp_num::decimal_texts;
 use hp_outside::{Limits, LineFault, LineReader, Store};
 use record_book::quiet_modules;
@@ -43,7 +43,7 @@ pub fn check_order<S: Store>(
     compare_lines(&mut check, &mut lines, store)
 }
 
-// Compares all lines of the current file.
+/// Compares all lines of the current file.
 fn compare_lines<S: Store>(
     check: &mut OrderCheck,
     lines: &mut LineReader,
@@ -61,8 +61,8 @@ fn compare_lines<S: Store>(
         match lines.next(store) {
             Ok(Some(span)) => match check.line(lines.line(&span)) {
                 Ok(()) => {}
-                Err(LineRefusal::NotRecorded) => return Ok(Verdict::No { line: number }),
-                Err(LineRefusal::NoMemory) => return Err(CheckFault::NoMemory),
+                Err(CheckRefusal::NotRecorded) => return Ok(Verdict::No { line: number }),
+                Err(CheckRefusal::NoMemory) => return Err(CheckFault::NoMemory),
             },
             Ok(None) => return Ok(verdict_at_end(check.end(lines.ended()), number)),
             Err(LineFault::ReadFailed) => return Err(CheckFault::ReadFailed),
@@ -72,7 +72,7 @@ fn compare_lines<S: Store>(
     }
 }
 
-// The verdict where all lines were taken, with the number of the line behind the last.
+/// The verdict where all lines were taken, with the number of the line behind the last.
 fn verdict_at_end(events: Option<u64>, number: u64) -> Verdict
     ensures { result ≡ end_verdict events number }
 {

@@ -36,4 +36,4 @@ mod verdict;
 pub use check::check_order;
 pub use laws::{front_laws, one_answer};
 pub use order_check::OrderCheck;
-pub use verdict::{CheckFault, LineRefusal, Verdict};
+pub use verdict::{CheckFault, CheckRefusal, Verdict};

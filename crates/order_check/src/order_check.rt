@@ -8,7 +8,7 @@ ghost use Rattle.order_check.specs.Following.{is_empty, past_line, thread_for};
 ghost use Rattle.order_check.specs.KeptTurn.{KeepsOneTurn};
 ghost use Rattle.order_check.specs.TakenLine.{TakesLine};
 
-use crate::verdict::LineRefusal;
+use crate::verdict::CheckRefusal;
 use hp_num::{NoMemory, parse_dec};
 use record_book::TraceStream;
 use record_scripts::Scripts;
@@ -26,7 +26,7 @@ pub struct OrderCheck {
     compared: usize,
 }
 
-// No further field, in which lines could be kept.
+/// No further field, in which lines could be kept.
 const _: () = prove!(size_of::<OrderCheck>() == size_of::<TraceStream>() + size_of::<usize>());
 
 impl Model for OrderCheck {
@@ -65,7 +65,7 @@ impl OrderCheck {
     /// - `NoMemory` only where memory is wanting.
     ///
     /// After a refusal the check is of no use.
-    pub fn line(&mut self, line: &[u8]) -> Result<(), LineRefusal>
+    pub fn line(&mut self, line: &[u8]) -> Result<(), CheckRefusal>
         ensures { TakesLine self.old self.new line.now result }
     {
         self.step(line)
@@ -89,8 +89,8 @@ impl OrderCheck {
         Some(order.len() as u64)
     }
 
-    // One line further.
-    fn step(&mut self, line: &[u8]) -> Result<(), LineRefusal>
+    /// One line further.
+    fn step(&mut self, line: &[u8]) -> Result<(), CheckRefusal>
         ensures line { FollowsLine self.old self.new line.now result }
         ensures kept { KeepsOneTurn self.old → KeepsOneTurn self.new }
         ensures job { self.new.job ≡ self.old.job }
@@ -101,8 +101,8 @@ impl OrderCheck {
         self.compare(line)
     }
 
-    // Begins the turn that a line calls for, and compares the line; nothing is to come.
-    fn begin_with(&mut self, line: &[u8]) -> Result<(), LineRefusal>
+    /// Begins the turn that a line calls for, and compares the line; nothing is to come.
+    fn begin_with(&mut self, line: &[u8]) -> Result<(), CheckRefusal>
         requires { self.old.coming ≡ [] }
         ensures line { FollowsLine self.old self.new line.now result }
         ensures kept { KeepsOneTurn self.new }
@@ -114,19 +114,19 @@ impl OrderCheck {
         }
     }
 
-    // Whether nothing is to come of the turns that were begun.
+    /// Whether nothing is to come of the turns that were begun.
     fn is_compared(&self) -> bool
         ensures { result ≡ is_empty self.now.coming }
     {
         self.compared == self.stream.text().len()
     }
 
-    // Begins the turn that a line calls for; nothing is to come.
-    fn begin_turn(&mut self, line: &[u8]) -> Result<(), LineRefusal>
+    /// Begins the turn that a line calls for; nothing is to come.
+    fn begin_turn(&mut self, line: &[u8]) -> Result<(), CheckRefusal>
         requires { self.old.coming ≡ [] }
         ensures begun { OnOk result
             (turn_step self.old line.now ≡ Some (following_of self.new)) }
-        ensures refused { result ≡ Err LineRefusal.NotRecorded
+        ensures refused { result ≡ Err CheckRefusal.NotRecorded
             → turn_step self.old line.now ≡ None }
         ensures kept { OnOk result (self.new.kept ≡ self.new.coming) }
         ensures gone { OnErr result (self.new.kept ≡ []) }
@@ -135,36 +135,36 @@ impl OrderCheck {
         self.stream.let_go();
         self.compared = 0;
         let Some(thread) = thread_for(line, self.stream.order()) else {
-            return Err(LineRefusal::NotRecorded);
+            return Err(CheckRefusal::NotRecorded);
         };
         if thread >= u64::from(self.stream.scripts().threads()) {
-            return Err(LineRefusal::NotRecorded);
+            return Err(CheckRefusal::NotRecorded);
         }
         if self.stream.step(thread as u32)? {
             return Ok(());
         }
-        Err(LineRefusal::NotRecorded)
+        Err(CheckRefusal::NotRecorded)
     }
 
-    fn compare(&mut self, line: &[u8]) -> Result<(), LineRefusal>
+    fn compare(&mut self, line: &[u8]) -> Result<(), CheckRefusal>
         ensures passed { OnOk result
             (past_line line.now self.old.coming ≡ Some self.new.coming) }
         ensures refused { OnErr result (past_line line.now self.old.coming ≡ None) }
-        ensures fault { IfErr result (λ refusal. refusal ≡ LineRefusal.NotRecorded) }
+        ensures fault { IfErr result (λ refusal. refusal ≡ CheckRefusal.NotRecorded) }
         ensures order { self.new.order ≡ self.old.order }
         ensures kept { self.new.kept ≡ self.old.kept }
         ensures job { self.new.job ≡ self.old.job }
     {
         let coming = &self.stream.text()[self.compared..];
         if !begins_with_line(coming, line) {
-            return Err(LineRefusal::NotRecorded);
+            return Err(CheckRefusal::NotRecorded);
         }
         self.compared += line.len() + 1;
         Ok(())
     }
 }
 
-// Whether a text begins with a line and its line feed.
+/// Whether a text begins with a line and its line feed.
 fn begins_with_line(text: &[u8], line: &[u8]) -> bool
     ensures begins { result ≡ true
         → past_line line.now text.now ≡ Some (drop (length line.now + 1) text.now) }
@@ -181,7 +181,7 @@ fn begins_with_line(text: &[u8], line: &[u8]) -> bool
     &text[..count] == line
 }
 
-// The thread whose turn a line begins, behind the events of these threads.
+/// The thread whose turn a line begins, behind the events of these threads.
 fn thread_for(line: &[u8], order: &[u8]) -> Option<u64>
     ensures { result ≡ thread_for order.now line.now }
 {

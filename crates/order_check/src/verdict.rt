@@ -43,19 +43,19 @@ impl From<NoMemory> for CheckFault {
 
 /// Why a line isn't taken.
 #[derive(Clone, Copy)]
-pub enum LineRefusal {
+pub enum CheckRefusal {
     /// No recording begins with the lines up to this one.
     NotRecorded,
     /// Memory was wanting.
     NoMemory,
 }
 
-impl From<NoMemory> for LineRefusal {
-    ghost use Rattle.order_check.specs.declared.verdict.LineRefusal.TheVariants.{NoMemory as OutOfMemory};
+impl From<NoMemory> for CheckRefusal {
+    ghost use Rattle.order_check.specs.declared.verdict.CheckRefusal.TheVariants.{NoMemory as OutOfMemory};
 
     ghost from_gives = { λ _ refusal. refusal ≡ OutOfMemory };
 
-    fn from(_: NoMemory) -> LineRefusal {
-        LineRefusal::NoMemory
+    fn from(_: NoMemory) -> CheckRefusal {
+        CheckRefusal::NoMemory
     }
 }

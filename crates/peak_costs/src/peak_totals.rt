@@ -71,7 +71,7 @@ impl PeakTotals {
     /// Takes the event as the ledger does, and keeps the peak with it. No memory is taken.
     ///
     /// What the event must be, and when each fault comes, is as in the ledger's `apply`.
-    // The kind of the event is known at most calls.
+    /// The kind of the event is known at most calls.
     #[inline(always)]
     pub fn apply(&mut self, event: Event) -> Result<(), EventFault>
         requires held { IsHeld self.old.ledger event }

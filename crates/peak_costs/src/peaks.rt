@@ -107,7 +107,7 @@ impl Peaks {
     ///
     /// What the event must be, and when each fault comes, is as in the ledger's `apply`. Each change of a cell is one
     /// step of the counter: there are at most six, however many stacks there are.
-    // The kind of the event is known at most calls.
+    /// The kind of the event is known at most calls.
     #[inline(always)]
     pub fn apply<L: std::sync::ledger::Ledger>(
         &mut self,

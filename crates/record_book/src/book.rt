@@ -144,7 +144,7 @@ impl Book {
         Ok(book)
     }
 
-    // This book with these scripts where they and their modules are the same, else a new one.
+    /// This book with these scripts where they and their modules are the same, else a new one.
     fn for_job(self, job: Arc<Scripts>) -> Result<Book, NoMemory>
         ensures job { IfOk result (λ book. book.job ≡ arc_value job) }
         ensures same { IsSameWork self.job (arc_value job)
@@ -156,7 +156,7 @@ impl Book {
         Book::new(self.alloc, job)
     }
 
-    // This book with other scripts, which are the same and have the same modules.
+    /// This book with other scripts, which are the same and have the same modules.
     fn with_job(mut self, job: Arc<Scripts>) -> Book
         requires { IsSameWork self.job (arc_value job) }
         ensures job { result.job ≡ arc_value job }
@@ -166,7 +166,7 @@ impl Book {
         self
     }
 
-    // Takes the turns that are left of all threads.
+    /// Takes the turns that are left of all threads.
     fn complete(&mut self) -> Result<(), NoMemory>
         ensures all { OnOk result (IsInterleaving self.new.job.scripts self.new.order) }
         ensures job { self.new.job ≡ self.old.job }
@@ -178,7 +178,7 @@ impl Book {
         Ok(())
     }
 
-    // Takes the turns that are left of a thread, whose script has to be there.
+    /// Takes the turns that are left of a thread, whose script has to be there.
     fn complete_thread(&mut self, thread: u32) -> Result<(), NoMemory>
         requires { thread < length self.old.job.scripts }
         ensures completed { OnOk result (CompletesThread thread self.old self.new) }

@@ -50,7 +50,7 @@ impl FreePlaces {
         }
     }
 
-    // Puts in the first place of a class. On `NoMemory` the places are as before.
+    /// Puts in the first place of a class. On `NoMemory` the places are as before.
     fn open(&mut self, class: u64, address: u64) -> Result<(), NoMemory>
         requires { get nat_eq self.old.classes class ≡ None }
         ensures put { OnOk result (PutsPlace self.old self.new class address) }

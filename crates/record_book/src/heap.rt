@@ -99,7 +99,7 @@ impl Heap {
         }
     }
 
-    // Takes the next address of a class, which is at most 2^33.
+    /// Takes the next address of a class, which is at most 2^33.
     fn take_address(&mut self, class: u64) -> u64
         requires few_bytes { class ≤ 2 ^ 33 }
         requires room { self.old.end + 2 ^ 33 ≤ 2 ^ 63 }
@@ -117,7 +117,7 @@ impl Heap {
         }
     }
 
-    // Puts the place of a block that was live among those without a block, where there was one.
+    /// Puts the place of a block that was live among those without a block, where there was one.
     fn free_place(&mut self, left: Option<LiveEntry>) -> Result<(), NoMemory>
         requires { IfSome left
             (λ entry. has_place self.old.free entry.class entry.address ≡ false) }

@@ -90,7 +90,7 @@ impl LiveBlocks {
         }
     }
 
-    // The place of a thread's ID in the table, where it has one.
+    /// The place of a thread's ID in the table, where it has one.
     fn place(&self, thread: u32, id: u64) -> Option<usize>
         ensures low { IfSome result (IsPlaceIn self.now thread id) }
         ensures high { IfNone result (is_low (length self.now.low.items) thread id ≡ false) }

@@ -31,8 +31,8 @@ pub fn put_stack(nodes: &mut Nodes, stack: TurnStack, text: &mut Vec<u8>) -> Res
     }
 }
 
-// The node of a stack, given from its innermost ip outwards; the lines of new nodes are appended to `text`, the outermost
-// first.
+/// The node of a stack, given from its innermost ip outwards; the lines of new nodes are appended to `text`, the outermost
+/// first.
 fn put_nodes(nodes: &mut Nodes, ips: &[u64], text: &mut Vec<u8>) -> Result<u32, NoMemory>
     requires numbered { (known : List (List ℕ)) × AreNumbered nodes.old known }
     requires few_ips { length ips.now ≤ 256 }
@@ -49,7 +49,7 @@ fn put_nodes(nodes: &mut Nodes, ips: &[u64], text: &mut Vec<u8>) -> Result<u32, 
     Ok(parent)
 }
 
-// The node of an ip that is called from a node, with its line where it is new.
+/// The node of an ip that is called from a node, with its line where it is new.
 fn put_node(nodes: &mut Nodes, ip: u64, parent: u32, text: &mut Vec<u8>) -> Result<u32, NoMemory>
     requires { CanCall nodes.old parent }
     ensures next { IfOk result
@@ -66,7 +66,7 @@ fn put_node(nodes: &mut Nodes, ip: u64, parent: u32, text: &mut Vec<u8>) -> Resu
     Ok(node)
 }
 
-// The number of the node of an ip that is called from a node. On `NoMemory` the nodes are as before.
+/// The number of the node of an ip that is called from a node. On `NoMemory` the nodes are as before.
 fn intern(nodes: &mut Nodes, ip: u64, parent: u32) -> Result<u32, NoMemory>
     requires { CanCall nodes.old parent }
     ensures interned { IfOk result (InternsNode nodes.old nodes.new ip parent) }

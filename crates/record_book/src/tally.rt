@@ -81,7 +81,7 @@ impl Tally {
         Ok(())
     }
 
-    // Takes a free. It takes no memory.
+    /// Takes a free. It takes no memory.
     fn free(&mut self, thread: u32, id: u64)
         requires { (actions : List Action) × IsTally self.old actions }
         ensures taken { CountsFree self.old self.new thread id }
@@ -95,7 +95,7 @@ impl Tally {
     }
 }
 
-// 1 for a block, and 0 for none.
+/// 1 for a block, and 0 for none.
 fn count_of(size: Option<u64>) -> u64
     ensures { result ≡ (if is_some size then 1 else 0) }
 {

@@ -68,7 +68,7 @@ impl Trace {
         added
     }
 
-    // The same; on `NoMemory` the text and the nodes may have more at their ends.
+    /// The same; on `NoMemory` the text and the nodes may have more at their ends.
     fn put_turn(&mut self, thread: u32, turn: ScriptLine, stack: TurnStack) -> Result<u32, NoMemory>
         requires { CanTake self.old thread turn stack }
         ensures added { OnOk result (AddsTurn self.old self.new thread turn stack.entry) }
@@ -81,7 +81,7 @@ impl Trace {
         Ok(node)
     }
 
-    // Appends the lines of a turn's events, without that of its thread.
+    /// Appends the lines of a turn's events, without that of its thread.
     fn put_events(
         &mut self,
         thread: u32,
@@ -111,7 +111,7 @@ impl Trace {
         }
     }
 
-    // Appends the lines of an allocation, and puts its block into the heap. The live block of its ID lies at `left`.
+    /// Appends the lines of an allocation, and puts its block into the heap. The live block of its ID lies at `left`.
     fn put_allocation(
         &mut self,
         thread: u32,
@@ -136,7 +136,7 @@ impl Trace {
     }
 }
 
-// Appends the line of an allocation. It can't fail where there is room for 53 bytes.
+/// Appends the line of an allocation. It can't fail where there is room for 53 bytes.
 fn put_alloc(text: &mut Vec<u8>, size: u64, trace: u64, ptr: u64) -> Result<(), NoMemory>
     ensures appended { OnOk result
         (text.new.items ≡ text.old.items ++ allocation_text size trace ptr) }
@@ -146,7 +146,7 @@ fn put_alloc(text: &mut Vec<u8>, size: u64, trace: u64, ptr: u64) -> Result<(), 
     put_number_line(text, b'+', &[size, trace, ptr])
 }
 
-// Appends the line of a free. It can't fail where there is room for 53 bytes.
+/// Appends the line of a free. It can't fail where there is room for 53 bytes.
 fn put_free(text: &mut Vec<u8>, ptr: u64) -> Result<(), NoMemory>
     ensures appended { OnOk result (text.new.items ≡ text.old.items ++ free_text ptr) }
     ensures kept { Extends text.old.items text.new.items }
@@ -155,7 +155,7 @@ fn put_free(text: &mut Vec<u8>, ptr: u64) -> Result<(), NoMemory>
     put_number_line(text, b'-', &[ptr])
 }
 
-// Appends the line that names a thread, where the event before is of another or there is none.
+/// Appends the line that names a thread, where the event before is of another or there is none.
 fn put_switch(text: &mut Vec<u8>, last: Option<u32>, thread: u32) -> Result<(), NoMemory>
     ensures appended { OnOk result (text.new.items ≡ text.old.items ++ switch_text last thread) }
     ensures kept { Extends text.old.items text.new.items }
@@ -171,7 +171,7 @@ fn put_switch(text: &mut Vec<u8>, last: Option<u32>, thread: u32) -> Result<(), 
     }
 }
 
-// Appends the line that names a thread.
+/// Appends the line that names a thread.
 fn put_thread(text: &mut Vec<u8>, thread: u32) -> Result<(), NoMemory>
     ensures appended { OnOk result (text.new.items ≡ text.old.items ++ thread_line thread) }
     ensures kept { Extends text.old.items text.new.items }

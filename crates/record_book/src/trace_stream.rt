@@ -155,7 +155,7 @@ impl TraceStream {
     }
 }
 
-// Appends a thread to an order, once for each event of its turn. It can't fail where there is room for two.
+/// Appends a thread to an order, once for each event of its turn. It can't fail where there is room for two.
 fn push_entries(order: &mut Vec<u8>, thread: u8, turn: ScriptLine) -> Result<(), NoMemory>
     ensures pushed { OnOk result (AppendsTurn order.old.items order.new.items thread turn) }
     ensures room { vec_len order.old + 2 ≤ vec_capacity order.old → IsOk result }
@@ -168,7 +168,7 @@ fn push_entries(order: &mut Vec<u8>, thread: u8, turn: ScriptLine) -> Result<(),
     Ok(())
 }
 
-// The stack of a node that is known, or of these ips where it is 0.
+/// The stack of a node that is known, or of these ips where it is 0.
 fn stack_of(known: u32, ips: &[u64]) -> TurnStack<'_>
     ensures known { known ≢ 0 → result ≡ Known known }
     ensures ips { known ≡ 0 → (nodes : List Node) → ips_of nodes result ≡ ips.now }

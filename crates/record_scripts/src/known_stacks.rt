@@ -66,7 +66,7 @@ impl KnownStacks {
         }
     }
 
-    // Makes the slots, where there are none and there is memory for them.
+    /// Makes the slots, where there are none and there is memory for them.
     fn open(&mut self)
         ensures { (nodes : List Node) → AreKnown nodes self.old → AreKnown nodes self.new }
     {
@@ -81,7 +81,7 @@ impl KnownStacks {
 }
 
 impl KnownStack {
-    // Takes a stack with its text in the place of what it has, or that of no ips where memory is wanting.
+    /// Takes a stack with its text in the place of what it has, or that of no ips where memory is wanting.
     fn take(&mut self, text: &[u8], node: u32)
         ensures { (nodes : List Node) → IsKnownText nodes text.now node
             → IsKnownSlot nodes self.new }
@@ -95,7 +95,7 @@ impl KnownStack {
     }
 }
 
-// Slots that have the stack of no ips.
+/// Slots that have the stack of no ips.
 fn empty_slots(alloc: Global) -> Result<Vec<KnownStack>, NoMemory>
     ensures { IfOk result (λ slots. (nodes : List Node) → AreKnownSlots nodes slots.items) }
 {
@@ -109,7 +109,7 @@ fn empty_slots(alloc: Global) -> Result<Vec<KnownStack>, NoMemory>
     Ok(slots)
 }
 
-// The slot of a text: its bytes eight at a time, mixed.
+/// The slot of a text: its bytes eight at a time, mixed.
 fn slot_of(text: &[u8]) -> usize
     ensures { result < 4096 }
 {
@@ -122,7 +122,7 @@ fn slot_of(text: &[u8]) -> usize
     (mixed % SLOTS as u64) as usize
 }
 
-// The last eight bytes, or all of a shorter text.
+/// The last eight bytes, or all of a shorter text.
 fn last_word(text: &[u8]) -> u64 {
     match text.last_chunk::<8>() {
         Some(word) => u64::from_le_bytes(*word),
@@ -136,7 +136,7 @@ fn last_word(text: &[u8]) -> u64 {
     }
 }
 
-// One word more, so that each of its bits may change any bit of the result.
+/// One word more, so that each of its bits may change any bit of the result.
 #[inline(always)]
 fn mix(mixed: u64, word: u64) -> u64 {
     (mixed ^ word)

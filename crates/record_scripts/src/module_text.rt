@@ -83,7 +83,7 @@ fn has_line_feed(text: &[u8]) -> bool
     text.iter().any(|byte| *byte == b'\n')
 }
 
-// Whether the item is a module, or clears all modules.
+/// Whether the item is a module, or clears all modules.
 fn is_module(item: &Item) -> bool
     ensures { result ≡ is_module (content item.now) }
 {

@@ -11,7 +11,7 @@ const MOST_DIGITS: usize = 16;
 
 /// Takes the number in the first field off a text: that number, and what follows it. `None` where there is no field. A field
 /// that is no number counts as 0.
-// Each field of a line has the walk in its place.
+/// Each field of a line has the walk in its place.
 #[inline(always)]
 pub fn first_number(text: &[u8]) -> Option<(u64, &[u8])>
     ensures none { IfNone result (fields text.now ≡ []) }

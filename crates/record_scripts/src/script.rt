@@ -65,7 +65,7 @@ pub fn are_kept_as(scripts: &[Script], others: &[Script]) -> bool
     true
 }
 
-// Whether turns are kept in the same way.
+/// Whether turns are kept in the same way.
 fn are_same_turns(turns: &[TurnEntry], others: &[TurnEntry]) -> bool
     ensures { IsTrue result ↔ (map turn_numbered turns.now ≡ map turn_numbered others.now) }
 {

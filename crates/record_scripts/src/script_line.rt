@@ -63,7 +63,7 @@ pub fn read_script_line(line: &[u8]) -> Option<(ScriptLine, &[u8])>
     read_turn(*kind, rest)
 }
 
-// What a line of a kind says, and the text of its ips.
+/// What a line of a kind says, and the text of its ips.
 #[tactic(auto, unfolding(crate::specs::ScriptLine::turn_of))]
 fn read_turn(kind: u8, rest: &[u8]) -> Option<(ScriptLine, &[u8])>
     ensures said { IfSome result
@@ -97,7 +97,7 @@ fn ends_kind(rest: &[u8]) -> bool
     }
 }
 
-// The block that a line frees. A field that is no number counts as 0 where it is taken off, so 0 is looked at again.
+/// The block that a line frees. A field that is no number counts as 0 where it is taken off, so 0 is looked at again.
 fn read_free(rest: &[u8]) -> Option<u64>
     ensures { result ≡ free_of (fields rest.now) }
 {
@@ -111,7 +111,7 @@ fn read_free(rest: &[u8]) -> Option<u64>
     }
 }
 
-// The block that a line allocates, and the text of its ips.
+/// The block that a line allocates, and the text of its ips.
 fn read_block(rest: &[u8]) -> Option<(Block, &[u8])>
     ensures said { IfSome result
         (λ found. block_of (fields rest.now) ≡ block_said found.0 found.1.now) }
@@ -125,7 +125,7 @@ fn read_block(rest: &[u8]) -> Option<(Block, &[u8])>
     Some((block, ips))
 }
 
-// The ID and the size of a block, and what follows them; 0 is looked at again, as in `read_free`.
+/// The ID and the size of a block, and what follows them; 0 is looked at again, as in `read_free`.
 fn read_size(rest: &[u8]) -> Option<(Block, &[u8])>
     ensures { option_map (λ found. sized_said found.0 found.1.now) result
         ≡ sized_of (fields rest.now) }

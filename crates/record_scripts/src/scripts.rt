@@ -230,7 +230,7 @@ impl Scripts {
         Ok(shared)
     }
 
-    // Appends an allocation to the last script, of which the text is that of its ips.
+    /// Appends an allocation to the last script, of which the text is that of its ips.
     fn allocate(&mut self, id: u64, size: u64, text: &[u8]) -> Result<(), ScriptFault>
         requires begun { 0 < length self.old.scripts }
         requires few_bytes { size ≤ 2 ^ 32 }
@@ -261,7 +261,7 @@ impl Scripts {
         Ok(())
     }
 
-    // Appends a free to the last script.
+    /// Appends a free to the last script.
     fn free(&mut self, id: u64) -> Result<(), ScriptFault>
         requires { 0 < length self.old.scripts }
         ensures added { OnOk result (self.new ≡ with_turn self.old (Some (frees id))) }
@@ -280,7 +280,7 @@ impl Scripts {
         Ok(())
     }
 
-    // The fault of a free where no event more is allowed.
+    /// The fault of a free where no event more is allowed.
     fn refused_free(&self, id: u64) -> ScriptFault
         requires begun { 0 < length self.now.scripts }
         requires full { self.now.limit ≡ event_count self.now.scripts }
@@ -293,7 +293,7 @@ impl Scripts {
         }
     }
 
-    // Appends a reallocation to the last script, of which the text is that of its ips.
+    /// Appends a reallocation to the last script, of which the text is that of its ips.
     fn reallocate(&mut self, id: u64, size: u64, text: &[u8]) -> Result<(), ScriptFault>
         requires begun { 0 < length self.old.scripts }
         requires few_bytes { size ≤ 2 ^ 32 }

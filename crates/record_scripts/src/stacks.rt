@@ -83,7 +83,7 @@ impl Stacks {
         }
     }
 
-    // The node of a stack of these ips, with their text.
+    /// The node of a stack of these ips, with their text.
     fn intern_new(&mut self, text: &[u8], ips: &[u64]) -> Result<u32, NoMemory>
         requires said { ips.now ≡ numbers text.now }
         requires good { are_ips (numbers text.now) ≡ true }
@@ -98,7 +98,7 @@ impl Stacks {
     }
 }
 
-// The node of a stack of at most 256 ips. On `NoMemory` the nodes are as before.
+/// The node of a stack of at most 256 ips. On `NoMemory` the nodes are as before.
 fn intern(nodes: &mut Nodes, ips: &[u64]) -> Result<u32, NoMemory>
     requires single { AreSingle (reverse nodes.old) }
     requires few_ips { length ips.now ≤ 256 }

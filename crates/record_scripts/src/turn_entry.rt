@@ -80,7 +80,7 @@ impl TurnEntry {
         }
     }
 
-    // The turn of a kind with these numbers.
+    /// The turn of a kind with these numbers.
     fn of_kind(kind: TurnKind, id: u64, size: u64, node: u32) -> TurnEntry
         requires { size ≤ 2 ^ 32 }
         ensures kind { result.kind ≡ kind }
@@ -99,7 +99,7 @@ impl TurnEntry {
     }
 }
 
-// The number of these parts.
+/// The number of these parts.
 fn wide(low: u32, high: u32) -> u64
     ensures { result ≡ wide low high }
 {

@@ -282,7 +282,7 @@ heaprec: s:1: not a recording
     },
 ];
 
-// A check starts no worker.
+/// A check starts no worker.
 #[test]
 fn checks(rt: HostRuntime) {
     let gate = Watch::of(NOBODY);

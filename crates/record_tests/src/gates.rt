@@ -3,7 +3,7 @@
 use recorder::Gate;
 use std::sync::atomic::{AtomicBool, AtomicU64, Ordering};
 
-// How often a gate looks before it lets go.
+/// How often a gate looks before it lets go.
 const MOST_LOOKS: u64 = 1_000_000_000;
 
 /// No workers.

@@ -2,7 +2,7 @@
 
 use crate::script_text::scripts_of;
 
-// What scripts that differ come to is a clause.
+/// What scripts that differ come to is a clause.
 #[test]
 fn scripts_that_say_the_same(rt: HostRuntime) {
     let scripts = scripts_of(&rt, rt.alloc(), b"a 1 8 2\nf 1|a 1 8 3");

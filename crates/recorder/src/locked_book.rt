@@ -11,7 +11,7 @@ use hp_num::NoMemory;
 use record_book::Book;
 use std::sync::{Mutex, Wait};
 
-// The most turns of one hold.
+/// The most turns of one hold.
 const HOLD_TURNS: u32 = 64;
 
 /// A book that threads share. Whenever its lock is free, the book is what its type says: its order is one under its
@@ -47,8 +47,8 @@ impl Recorder {
     }
 }
 
-// The turns of one hold: those of a thread until 64 are taken or its script is done, and none where the book has no such
-// script. More may be left where it doesn't say that the worker has ended. On `NoMemory` those that were taken stay.
+/// The turns of one hold: those of a thread until 64 are taken or its script is done, and none where the book has no such
+/// script. More may be left where it doesn't say that the worker has ended. On `NoMemory` those that were taken stay.
 fn take_turns(book: &mut Book, thread: u32) -> Result<Option<Ended>, NoMemory>
     ensures job { book.new.job ≡ book.old.job }
     ensures hold { IfOk result (λ last. IsHold book.old book.new thread (is_none last)) }

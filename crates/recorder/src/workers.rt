@@ -25,8 +25,8 @@ pub fn run_workers<R: Threads + Wait + Sync, G: Gate + Sync>(
     Ok(())
 }
 
-// The workers from a number on and below an end: of more than one, one half beside the other. All of them have ended well where the
-// answer says so of them, and so `NoMemory` of either half is the answer.
+/// The workers from a number on and below an end: of more than one, one half beside the other. All of them have ended well where the
+/// answer says so of them, and so `NoMemory` of either half is the answer.
 fn run_between<R: Threads + Wait + Sync, G: Gate + Sync>(
     rt: &R,
     recorder: &Recorder,
@@ -62,7 +62,7 @@ fn run_between<R: Threads + Wait + Sync, G: Gate + Sync>(
     Ok(left.and(right))
 }
 
-// One worker: the holds of a thread.
+/// One worker: the holds of a thread.
 fn work<R: Wait, G: Gate>(
     rt: &R,
     recorder: &Recorder,

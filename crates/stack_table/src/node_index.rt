@@ -66,7 +66,6 @@ impl NodeIndex {
         self.count = self.count.min(len);
     }
 
-    // Takes in the next node.
     fn take_next(&mut self, entries: &[NodeEntry]) -> Result<(), NoMemory>
         requires indexed { IsIndexed (nodes_of entries.now) self.old }
         requires more { self.old.count < length entries.now }
@@ -86,7 +85,7 @@ impl NodeIndex {
         Ok(())
     }
 
-    // The same as `find` among the nodes that are in the index.
+    /// The same as `find` among the nodes that are in the index.
     fn find_indexed(&self, entries: &[NodeEntry], ip: u64, parent: u32) -> Option<u32>
         requires indexed { IsIndexed (nodes_of entries.now) self.now }
         ensures found { IfSome result
@@ -102,7 +101,7 @@ impl NodeIndex {
     }
 }
 
-// The least number of a node with this instruction pointer and parent, where it isn't among the first `passed`.
+/// The least number of a node with this instruction pointer and parent, where it isn't among the first `passed`.
 fn find_after(entries: &[NodeEntry], passed: u32, ip: u64, parent: u32) -> Option<u32>
     requires passed { IsPassed (nodes_of entries.now) ip parent passed }
     requires within { passed ≤ length entries.now }

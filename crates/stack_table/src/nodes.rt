@@ -221,7 +221,7 @@ impl Nodes {
         self.index.cut(len);
     }
 
-    // The frames of stack `n`, from its entry.
+    /// The frames of stack `n`, from its entry.
     fn frames_of(&self, n: u32) -> u32
         requires { n ≤ length self.now }
         ensures frames { result ≡ frame_count self.now n }
@@ -278,7 +278,7 @@ impl Nodes {
     }
 }
 
-// How many instruction pointers stack `n` has.
+/// How many instruction pointers stack `n` has.
 fn stack_len(entries: &[NodeEntry], n: u32) -> usize
     requires table { IsTable entries.now }
     requires held { n ≤ length entries.now }
@@ -293,7 +293,7 @@ fn stack_len(entries: &[NodeEntry], n: u32) -> usize
     len
 }
 
-// Appends stack `n` to `out`, which has room for it.
+/// Appends stack `n` to `out`, which has room for it.
 fn push_stack(entries: &[NodeEntry], n: u32, out: &mut Vec<u64>) -> Result<(), NoMemory>
     requires table { IsTable entries.now }
     requires held { n ≤ length entries.now }

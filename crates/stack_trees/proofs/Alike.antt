@@ -103,7 +103,7 @@ IsTreeOf-same tree stacks other depth same is = record {
       };
   below = is.below;
   root_parent = is.root_parent;
-  brothers = is.brothers;
+  siblings = is.siblings;
 }
 
 -- whether a list is a front is told by its first texts, one more than the front may have

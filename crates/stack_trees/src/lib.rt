@@ -7,7 +7,7 @@
 //!   their frames in a style and from one end (`lists_towards`). From the root it makes the texts of each node once, and its memory goes by
 //!   nodes. From the allocation it makes no text of a stack that costs nothing, and of each other stack one text more than `depth`
 //!   at most. `lists_from_root` and `CostTree::of_lists` are its two steps from the root, for a caller that lets go the tables
-//!   between them: the first one tells the lists (`ToldLists`), and the second one looks for their fronts.
+//!   between them: the first one tells the lists (`CallerLists`), and the second one looks for their fronts.
 //! - `CallChains` is seen as a list of lists of texts, and keeps of each the texts of a stack's own frames, and which
 //!   earlier list follows them (`push`). `into_cut` gives the same lists, cut for the lines of trees (`CutFronts`).
 //!

@@ -9,17 +9,21 @@ ghost use Rattle.stack_trees.specs.Needed.{Begins};
 ghost use Rattle.stack_trees.specs.StackTexts.{lists_towards};
 
 use crate::stack_lists::push_texts;
-use cost_tree::ToldLists;
+use cost_tree::CallerLists;
 use hp_num::NoMemory;
 use ht_trace::{FrameAt, Style, Tables};
 use std::alloc::Global;
 
 /// The lists of all stacks, or `NoMemory`.
-pub fn lists_from_root(alloc: Global, tables: &Tables, style: Style) -> Result<ToldLists, NoMemory>
+pub fn lists_from_root(
+    alloc: Global,
+    tables: &Tables,
+    style: Style,
+) -> Result<CallerLists, NoMemory>
     ensures lists { IfOk result (λ lists. lists ≡ lists_towards FromRoot style tables.now) }
     ensures count { IfOk result (λ lists. length lists ≡ length tables.now.nodes + 1) }
 {
-    let mut lists = ToldLists::new(alloc);
+    let mut lists = CallerLists::new(alloc);
     match push_lists(alloc, tables, style, &mut lists) {
         Ok(()) => Ok(lists),
         Err(fault) => {
@@ -34,7 +38,7 @@ fn push_lists(
     alloc: Global,
     tables: &Tables,
     style: Style,
-    lists: &mut ToldLists,
+    lists: &mut CallerLists,
 ) -> Result<(), NoMemory>
     requires none { lists.old ≡ [] }
     ensures lists { OnOk result (lists.new ≡ lists_towards FromRoot style tables.now) }
@@ -54,7 +58,7 @@ fn push_lists(
 fn begin_list(
     tables: &Tables,
     stack: u32,
-    lists: &mut ToldLists,
+    lists: &mut CallerLists,
     frames: &mut Vec<FrameAt>,
 ) -> Result<(), NoMemory>
     requires held { stack ≤ length tables.now.nodes }
@@ -80,7 +84,7 @@ fn begin_list(
 fn push_turned(
     tables: &Tables,
     style: Style,
-    lists: &mut ToldLists,
+    lists: &mut CallerLists,
     frames: &mut Vec<FrameAt>,
     text: &mut Vec<u8>,
 ) -> Result<(), NoMemory>

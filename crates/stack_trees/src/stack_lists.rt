@@ -9,7 +9,7 @@ ghost use Rattle.stack_trees.specs.Needed.{needed, needed_lists};
 ghost use Rattle.stack_trees.specs.StackTexts.{stack_texts, towards};
 
 use crate::list_form::ListForm;
-use cost_tree::ToldLists;
+use cost_tree::CallerLists;
 use hp_num::NoMemory;
 use ht_trace::{FrameAt, Style, Tables};
 use std::alloc::Global;
@@ -28,12 +28,12 @@ pub(crate) fn stack_lists(
     tables: &Tables,
     costs: &[u64],
     form: ListForm,
-) -> Result<ToldLists, NoMemory>
+) -> Result<CallerLists, NoMemory>
     requires as_many { length costs.now ≡ length tables.now.nodes + 1 }
     ensures lists { IfOk result
         (λ lists. lists ≡ needed_lists FromAllocation form.style tables.now form.most costs.now) }
 {
-    let mut lists = ToldLists::new(alloc);
+    let mut lists = CallerLists::new(alloc);
     let mut buffers = Buffers {
         frames: Vec::new(alloc),
         text: Vec::new(alloc),
@@ -51,7 +51,7 @@ fn add_stack(
     stack: u32,
     cost: u64,
     form: ListForm,
-    lists: &mut ToldLists,
+    lists: &mut CallerLists,
     buffers: &mut Buffers,
 ) -> Result<(), NoMemory>
     requires held { stack ≤ length tables.now.nodes }
@@ -73,7 +73,7 @@ fn push_stack(
     tables: &Tables,
     stack: u32,
     form: ListForm,
-    lists: &mut ToldLists,
+    lists: &mut CallerLists,
     buffers: &mut Buffers,
 ) -> Result<(), NoMemory>
     requires held { stack ≤ length tables.now.nodes }
@@ -94,7 +94,7 @@ pub(crate) fn push_texts(
     tables: &Tables,
     frames: &[FrameAt],
     style: Style,
-    lists: &mut ToldLists,
+    lists: &mut CallerLists,
     text: &mut Vec<u8>,
 ) -> Result<(), NoMemory>
     requires frames { All (λ at. IsFrame tables.now at) frames.now }

@@ -6,7 +6,7 @@ use crate::direction::Direction;
 use crate::list_form::ListForm;
 use crate::root_lists::lists_from_root;
 use crate::stack_lists::stack_lists;
-use cost_tree::ToldLists;
+use cost_tree::CallerLists;
 use hp_num::NoMemory;
 use ht_trace::{Style, Tables};
 use std::alloc::Global;
@@ -19,7 +19,7 @@ pub(crate) fn trace_lists(
     direction: Direction,
     style: Style,
     depth: u32,
-) -> Result<ToldLists, NoMemory>
+) -> Result<CallerLists, NoMemory>
     requires as_many { length costs.now ≡ length tables.now.nodes + 1 }
     ensures lists { IfOk result
         (λ lists. StandFor direction style tables.now costs.now depth lists) }

@@ -107,7 +107,6 @@ impl Generator {
         Ok(())
     }
 
-    /// A group of one line.
     fn head(&mut self, text: &[u8], following: Group, line: &mut Vec<u8>) -> Result<(), NoMemory>
         requires lines { lines_yet self.old
             ≡ text.now ∷ lines_left (sizes_of self.old.options) following 0 }

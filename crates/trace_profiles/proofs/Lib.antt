@@ -1,4 +1,4 @@
-mod LivesLemmas
+mod LifetimesLemmas
 mod NameLemmas
 mod MassifLemmas
 mod SamplingLemmas

@@ -1,5 +1,5 @@
 pub mod DhatReport
 pub mod ListedNames
-pub mod LivesView
+pub mod LifetimesView
 pub mod MassifReport
 pub mod SamplingView

@@ -3,7 +3,7 @@ ghost use Rattle.std.specs.Prelude.{◌^◌, ◌<◌, [], ◌∷◌};
 ghost use Rattle.command_frame.specs.RunsTo.{Runs};
 ghost use Rattle.trace_profiles.specs.DhatReport.{dhat_plan};
 
-use crate::lives::Lives;
+use crate::peaks_with_lifetimes::PeaksWithLifetimes;
 use command_frame::{Halt, RunContext};
 use dhat_trace::trace_profile_text;
 use hp_num::NoMemory;
@@ -16,15 +16,20 @@ use trace_reading::{TraceWriter, run_followed};
 #[derive(Clone, Copy)]
 pub struct DhatWriter;
 
-impl TraceWriter<Lives> for DhatWriter {
+impl TraceWriter<PeaksWithLifetimes> for DhatWriter {
     ghost use Rattle.trace_profiles.specs.DhatReport.{dhat_written};
 
     type Rest = Vec<u8>;
 
     ghost text = { λ _. dhat_written };
 
-    fn write(&self, alloc: Global, tables: Tables, lives: Lives) -> Result<Vec<u8>, NoMemory> {
-        let Lives { peaks, lifetimes } = lives;
+    fn write(
+        &self,
+        alloc: Global,
+        tables: Tables,
+        lives: PeaksWithLifetimes,
+    ) -> Result<Vec<u8>, NoMemory> {
+        let PeaksWithLifetimes { peaks, lifetimes } = lives;
         let text = trace_profile_text(alloc, tables, peaks, lifetimes)?;
         let mut output = text.into_bytes();
         output.push(b'\n')?;
@@ -43,6 +48,6 @@ pub fn run_dhat<S: Store, O: Sink>(
     ensures { Runs S.Store O.Sink context.now (name.now ∷ []) (dhat_plan name.now)
         store.old store.new out.old out.new result }
 {
-    let lives = Lives::new(context.alloc)?;
+    let lives = PeaksWithLifetimes::new(context.alloc)?;
     run_followed(context, name, lives, DhatWriter, store, out)
 }

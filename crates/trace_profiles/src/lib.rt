@@ -6,7 +6,7 @@
 //! whole text of the profile by the lines of the trace, and the first fault of each line. Both take lines of events many at a
 //! time.
 //!
-//! Both read a trace as `trace_reading` does, each with a follower of its own. That of `dhat`, `Lives`, is peaks, and lifetimes
+//! Both read a trace as `trace_reading` does, each with a follower of its own. That of `dhat`, `PeaksWithLifetimes`, is peaks, and lifetimes
 //! beside them, which take each event that the peaks took.
 //!
 //! That of `massif`, `Sampling`, is a ledger and a sampler, whose fault an event's is too. Where memory is wanting for a
@@ -19,15 +19,15 @@
 //!
 //! | File | Does |
 //! |---|---|
-//! | `lives.rt`, `dhat_run.rt` | peaks and lifetimes as what follows a trace; a run over one |
+//! | `peaks_with_lifetimes.rt`, `dhat_run.rt` | peaks and lifetimes as what follows a trace; a run over one |
 //! | `sampling.rt`, `massif_run.rt` | a ledger and a sampler as what follows a trace; a run over one |
 //! | `name_list.rt` | the names of a list, and whether a name is one of them |
 #![tactic(auto)]
 
 mod dhat_run;
-mod lives;
 mod massif_run;
 mod name_list;
+mod peaks_with_lifetimes;
 mod sampling;
 
 pub use dhat_run::run_dhat;

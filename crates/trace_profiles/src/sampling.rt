@@ -92,7 +92,7 @@ impl<A: Fn(&[u8]) -> bool, I: Fn(&[u8]) -> bool, T: Settled> Sampling<A, I, T> {
     }
 
     /// Lets the sampler go.
-    // A sampler that is let go in the body of the loop over events takes room there, which each event would clear.
+    /// A sampler that is let go in the body of the loop over events takes room there, which each event would clear.
     #[inline(never)]
     fn let_go(&mut self)
         ensures ledger { self.new.ledger ≡ self.old.ledger }
@@ -148,8 +148,8 @@ impl<A: Fn(&[u8]) -> bool, I: Fn(&[u8]) -> bool, T: Settled> Follower for Sampli
         }
     }
 
-    // Where memory is wanting for a snapshot, the event has no fault: it is taken, and the sampler let go, so that no later
-    // event is taken and no profile is given.
+    /// Where memory is wanting for a snapshot, the event has no fault: it is taken, and the sampler let go, so that no later
+    /// event is taken and no profile is given.
     #[inline(always)]
     fn event(&mut self, event: Event, tables: &Tables) -> Result<(), LineRefusal<EventFault>> {
         let Some(sampler) = &mut self.sampler else {

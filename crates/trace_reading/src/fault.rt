@@ -68,7 +68,6 @@ fn line_kind(error: LineError) -> FaultStatus
     }
 }
 
-/// The kind of an event's fault.
 fn event_kind(fault: EventFault) -> FaultStatus
     ensures { result ≡ event_status fault }
 {

@@ -33,7 +33,7 @@ pub trait Follower {
             → (view self.now).stands before taken → (view self.now).stands after taken };
 
     /// Lets it go.
-    // A method, since a value whose type names a closure can't be let go as one of a type parameter.
+    /// A method, since a value whose type names a closure can't be let go as one of a type parameter.
     fn close(self);
 
     /// Takes the tables' last stack, which is one more. `NoMemory` where memory is wanting; it is of no use then.

@@ -21,7 +21,7 @@ pub struct ReadLine {
 
 /// The line of an event at the front, where it stands there in its usual form and the ledger holds its info. Any tables beside
 /// the ledger pass it.
-// Each loop over it has the whole walk in its body.
+/// Each loop over it has the whole walk in its body.
 #[inline(always)]
 pub fn line_at_front(ledger: &TotalsLedger, ready: &[u8]) -> Option<ReadLine>
     ensures front { IfSome result
@@ -45,7 +45,6 @@ pub fn line_at_front(ledger: &TotalsLedger, ready: &[u8]) -> Option<ReadLine>
     })
 }
 
-/// The event of an info with this stack and size.
 fn event_of_info(kind: EventKind, info: u32, stack: u32, size: u64) -> Event
     ensures { result ≡ event_of_info kind info (record { stack = stack; size = size }) }
 {

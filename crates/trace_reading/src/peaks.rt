@@ -44,7 +44,7 @@ impl Follower for Peaks {
         }
     }
 
-    // Where lines come many at a time, the kind of the event is known at the call.
+    /// Where lines come many at a time, the kind of the event is known at the call.
     #[inline(always)]
     fn event(&mut self, event: Event, _tables: &Tables) -> Result<(), LineRefusal<EventFault>> {
         match take_event(self, event) {

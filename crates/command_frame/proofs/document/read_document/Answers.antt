@@ -1,6 +1,6 @@
 use Rattle.std.proofs.Common.{Err, ap, subst, ◌∙◌, arith}
 use Rattle.std.specs.Result.{is_ok}
-use Rattle.hp_outside.specs.Faults.{Rose}
+use Rattle.hp_outside.specs.Faults.{Faulted}
 use Rattle.hp_outside.specs.Taken.{WhereTold}
 use Rattle.hp_outside.specs.Whole.{WholeAnswer}
 use Rattle.command_frame.specs.FirstFault.{bounds_of}
@@ -73,7 +73,7 @@ returns-in-Err-read_whole-clause-read g c =
     (subst (λ result. WhereTold (store.left c.open.new.self)
     (λ bytes. WholeAnswer c.args.context.now.limits.input bytes result)) c.in-Err-read_whole.is whole.answer)
     (record { opens = whole.opens ∙ opens.opens; current_is = whole.current ∙ (opens.current ∙ ap is_ok c.in-Ok.is) })
-    (λ is. subst (λ n. Rose n (store.faults c.read_whole.new.store)) c.in-Ok.ensures.sound
+    (λ is. subst (λ n. Faulted n (store.faults c.read_whole.new.store)) c.in-Ok.ensures.sound
     (whole.failed (c.in-Err-read_whole.is ∙ ap Err is)))
     (λ other. whole.sound (λ is. other (cc)) ∙ c.in-Ok.ensures.sound) c.unread.ensures.answer c.unread.ensures.memory in
     record {

@@ -1,6 +1,6 @@
 use Rattle.std.proofs.Common.{◌≡◌, [], Err, ap, refl, subst, ◌∙◌, arith}
 use Rattle.std.specs.Result.{is_ok}
-use Rattle.hp_outside.specs.Faults.{Rose}
+use Rattle.hp_outside.specs.Faults.{Faulted}
 use Rattle.hp_outside.specs.LineReaderState.{LineReaderState}
 use Rattle.command_frame.specs.FirstFault.{bounds_of}
 use Rattle.command_frame.specs.LinesRun.{LinesRun, end_of}
@@ -108,7 +108,7 @@ returns-in-Err-read_current_file-clause-read g c =
       opens = all.file.opens ∙ opens.opens;
       current_is = all.file.current ∙ (opens.current ∙ ap is_ok c.in-Ok.is);
     })
-    (λ is. subst (λ n. Rose n (store.faults c.read_current_file.new.store)) c.in-Ok.ensures.sound
+    (λ is. subst (λ n. Faulted n (store.faults c.read_current_file.new.store)) c.in-Ok.ensures.sound
     (all.file.failed (c.in-Err-read_current_file.is ∙ ap Err is)))
     (λ read wrote. all.file.sound_reads (λ is. read (cc)) (λ is. wrote (cc)) ∙ c.in-Ok.ensures.sound)
     (λ other. c.stopped.ensures.answer other run.taken run.count) c.stopped.ensures.memory c.stopped.ensures.write in

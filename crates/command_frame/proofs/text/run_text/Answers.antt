@@ -1,5 +1,5 @@
 use Rattle.std.proofs.Common.{rules, Ok, ap, ◌∙◌, refl, subst, arith}
-use Rattle.hp_outside.specs.Faults.{Rose}
+use Rattle.hp_outside.specs.Faults.{Faulted}
 use Rattle.command_frame.specs.FirstFault.{bounds_of}
 use Rattle.command_frame.specs.declared.halt.Halt.{Halt}
 use Rattle.command_frame.specs.Halts.{halt_answer, status_code}
@@ -38,7 +38,7 @@ returns-in-Err-pass_on_piece g c = λ store. record {
       (ap (halt_answer (texts_of c.args.context.now.texts)) c.write_failed.ensures);
   files = refl;
   unwritten =
-      λ _. subst (λ n. Rose n (g.O.Sink.faults c.pass_on_piece.new.out)) c.pieces.invariant.write_faults
+      λ _. subst (λ n. Faulted n (g.O.Sink.faults c.pass_on_piece.new.out)) c.pieces.invariant.write_faults
       c.in-Err-pass_on_piece.ensures.failed;
   sound = λ other. absurd (other (ap (λ (h : Halt). status_code h.status) c.write_failed.ensures));
 }

@@ -2,8 +2,8 @@ use Rattle.std.proofs.Common.{◌≡◌, ℕ, ◌+◌, ◌-◌, List, Some, sym,
 use Rattle.std.specs.Prelude.{slice_index}
 use Rattle.std.proofs.lemmas.Option.{slice_get-get_or}
 use Rattle.cost_tree.specs.Shapes.{list_at, numbers_of}
-use Rattle.cost_tree.specs.Ways.{IsWay}
-use Rattle.cost_tree.proofs.Ascents.{IsWay-step, above-root, node-within, parent-before}
+use Rattle.cost_tree.specs.Paths.{IsPath}
+use Rattle.cost_tree.proofs.Ascents.{IsPath-step, above-root, node-within, parent-before}
 use Rattle.cost_tree.proofs.branches.climb.Goals as goal
 
 pub each_node-smaller : goal.each_node-smaller
@@ -24,9 +24,9 @@ each_node-preserved c =
     let free =
     slice_get-get_or numbered c.each_node.place 0 (omega (arith, c.requires.count))
     ∙ ap (λ (k : ℕ). Some k) c.each_node-test.true in
-    subst (λ (path : List ℕ). IsWay edges numbered list path c.edge_of-place.result.parent)
+    subst (λ (path : List ℕ). IsPath edges numbered list path c.edge_of-place.result.parent)
     (sym c.in_ok-push.ensures.items)
-    (IsWay-step edges numbered list c.each_node.path.items c.each_node.place c.edge_of-place.result c.requires.steps
+    (IsPath-step edges numbered list c.each_node.path.items c.each_node.place c.edge_of-place.result c.requires.steps
     c.each_node.invariant free above c.edge_of-place.ensures.edge)
 
 pub returns : goal.returns

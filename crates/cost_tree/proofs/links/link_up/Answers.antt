@@ -17,7 +17,7 @@ each_node-init c = record {
       let nodes = c.args.nodes.now in
       let zeros = ap (λ (ks : List ℕ). length ks) c.requires.none ∙ length-replicate (length nodes) 0 in
       let firsts = length-map links (λ (l : Link). l.first_child) in
-      let nexts = length-map links (λ (l : Link). l.next_brother) in
+      let nexts = length-map links (λ (l : Link). l.next_sibling) in
       AreLinksFrom-start nodes (firsts_in links) (nexts_in links) m is c.requires.some c.requires.none (omega arith);
 }
 

@@ -1,7 +1,7 @@
 use Rattle.std.proofs.Common.{◌≡◌, ◌+◌, [], ◌∷◌, length, ap, subst, ◌∙◌, length-append, arith}
 use Rattle.command_frame.specs.RunsTo.{shown, taken}
 use Rattle.record_scripts.specs.Job.{Job}
-use Rattle.heaprec_commands.specs.declared.reader.FileKind.TheVariants.{Script}
+use Rattle.heaprec_commands.specs.declared.reader.InputKind.TheVariants.{Script}
 use Rattle.heaprec_commands.specs.FileLines.{begun}
 use Rattle.heaprec_commands.specs.FilesPlan.{file_front}
 use Rattle.heaprec_commands.specs.FrontRead.{FrontRead}

@@ -1,6 +1,6 @@
 use Rattle.std.proofs.Common.{length, ap, ◌∙◌}
 use Rattle.record_scripts.specs.Job.{Job}
-use Rattle.heaprec_commands.specs.declared.reader.FileKind.TheVariants.{Script}
+use Rattle.heaprec_commands.specs.declared.reader.InputKind.TheVariants.{Script}
 use Rattle.heaprec_commands.proofs.LineLemmas.{count-one}
 use Rattle.heaprec_commands.proofs.TakenLemmas.{front-taken}
 use Rattle.heaprec_commands.proofs.ready_lines.take_front.Goals as goal

@@ -4,7 +4,7 @@ use Rattle.std.proofs.lemmas.List.{get_or_read, length_push}
 use Rattle.std.proofs.lemmas.Option.{get_or_from_slice_get, slice_get_within}
 use Rattle.cost_tree.specs.declared.edge.Edge.{Edge}
 use Rattle.cost_tree.specs.Shapes.{list_at}
-use Rattle.cost_tree.specs.Ways.{IsWayUp}
+use Rattle.cost_tree.specs.Paths.{IsPathUp}
 use Rattle.cost_tree.proofs.Ascents.{IsLeft, IsLeft-set, free-above}
 use Rattle.cost_tree.proofs.Lists.{get-push_new}
 use Rattle.cost_tree.proofs.Stages.{AreReached-deep, AreStages, AreStages-made, IsStage-moved, IsStage-reached}
@@ -18,7 +18,7 @@ each_node-init c =
     let list : List ℕ = list_at keys c.args.end in
     let n : ℕ = c.in_ok-node.node in
     let up =
-    subst (λ (ns : List ℕ). IsWayUp keys ns c.args.end c.climb.new.path.items n) c.deref.ensures.value
+    subst (λ (ns : List ℕ). IsPathUp keys ns c.args.end c.climb.new.path.items n) c.deref.ensures.value
     c.in_ok-node.ensures.way in
     let inside = slice_get_within tree.numbered.items up.node (n + 1) up.number in
     let most = built.numbers up.node (n + 1) inside in

@@ -6,8 +6,8 @@ use Rattle.cost_tree.proofs.Linking.{IsWalk, IsWalk-first, IsWalk-read, chain-no
 use Rattle.cost_tree.proofs.tree.CostTree.child_nodes.Goals as goal
 
 -- the first child has no next one
-pub returns-then-next_brother-eq0 : goal.returns-then-next_brother-eq0
-returns-then-next_brother-eq0 c =
+pub returns-then-next_sibling-eq0 : goal.returns-then-next_sibling-eq0
+returns-then-next_sibling-eq0 c =
     let nodes = c.self.inside.nodes.items in
     let links = c.self.inside.links.links.items in
     let child : ℕ = c.first_child-child.result in
@@ -19,9 +19,9 @@ returns-then-next_brother-eq0 c =
     subst (λ (k : ℕ). IsWalk nodes c.args.n k × (children_of nodes c.args.n ≡ chain nodes c.args.n k))
     (sym c.first_child-child.ensures) walk in
     let next =
-    IsWalk-read nodes (firsts_in links) (nexts_in links) c.args.n child c.next_brother.result
-    c.self.invariant.links.children first.0 c.if-child-eq0.false c.next_brother.ensures in
+    IsWalk-read nodes (firsts_in links) (nexts_in links) c.args.n child c.next_sibling.result
+    c.self.invariant.links.children first.0 c.if-child-eq0.false c.next_sibling.ensures in
     ap (λ (t : TreeState). children_of t.nodes c.args.n) (sym c.self.view_is)
     ∙ first.1
     ∙ next.1
-    ∙ ap (λ (xs : List ℕ). child ∷ xs) (chain-none nodes c.args.n c.next_brother.result c.if-next_brother-eq0.true)
+    ∙ ap (λ (xs : List ℕ). child ∷ xs) (chain-none nodes c.args.n c.next_sibling.result c.if-next_sibling-eq0.true)

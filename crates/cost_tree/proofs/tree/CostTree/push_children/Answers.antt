@@ -9,8 +9,8 @@ each_child-smaller c =
     let now = c.each_child.invariant in
     let step =
     IsWalk-read c.self.inside.nodes.items (firsts_in c.self.inside.links.links.items)
-    (nexts_in c.self.inside.links.links.items) c.args.n c.each_child.child c.next_brother-child.result
-    c.self.invariant.links.children now.walk c.each_child-test.true c.next_brother-child.ensures in
+    (nexts_in c.self.inside.links.links.items) c.args.n c.each_child.child c.next_sibling-child.result
+    c.self.invariant.links.children now.walk c.each_child-test.true c.next_sibling-child.ensures in
     let longer = ap (λ (xs : List ℕ). length xs) step.1 in
     omega arith
 
@@ -19,9 +19,9 @@ each_child-preserved c =
     let now = c.each_child.invariant in
     let step =
     IsWalk-read c.self.inside.nodes.items (firsts_in c.self.inside.links.links.items)
-    (nexts_in c.self.inside.links.links.items) c.args.n c.each_child.child c.next_brother-child.result
-    c.self.invariant.links.children now.walk c.each_child-test.true c.next_brother-child.ensures in
-    let left : List ℕ = chain c.self.inside.nodes.items c.args.n c.next_brother-child.result in
+    (nexts_in c.self.inside.links.links.items) c.args.n c.each_child.child c.next_sibling-child.result
+    c.self.invariant.links.children now.walk c.each_child-test.true c.next_sibling-child.ensures in
+    let left : List ℕ = chain c.self.inside.nodes.items c.args.n c.next_sibling-child.result in
     record {
       walk = step.0;
       rest = ap (λ (xs : List ℕ). xs ++ left) c.in_ok-push.ensures.items

@@ -1,6 +1,6 @@
 use Rattle.std.proofs.Common.{length, ap, ap₂, sym, ◌∙◌, arith}
 use Rattle.record_scripts.specs.Job.{Job}
-use Rattle.heaprec_commands.specs.declared.reader.FileKind.{FileKind}
+use Rattle.heaprec_commands.specs.declared.reader.InputKind.{InputKind}
 use Rattle.heaprec_commands.specs.FileLines.{with_one}
 use Rattle.heaprec_commands.proofs.LineLemmas.{count-one, lines-push}
 use Rattle.heaprec_commands.proofs.reader.FileReaderLineTaker.line.Goals as goal
@@ -19,5 +19,5 @@ returns-in-Ok-clause-sound g c = (
 pub returns-in-Ok-clause-taken : goal.returns-in-Ok-clause-taken
 returns-in-Ok-clause-taken g c = λ lines has.
     c.in-Ok.ensures.taken
-    ∙ ap₂ (λ (kind : FileKind) (job : Job). with_one kind job c.args.line.now) c.requires.sound.0 has
+    ∙ ap₂ (λ (kind : InputKind) (job : Job). with_one kind job c.args.line.now) c.requires.sound.0 has
     ∙ sym (lines-push g.B.Start.kind g.B.Start.job lines c.args.line.now)

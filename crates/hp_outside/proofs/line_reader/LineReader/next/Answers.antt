@@ -5,7 +5,7 @@ use Rattle.std.specs.List.{position_or_len}
 use Rattle.std.specs.Io.KnownBytes.{prepend_known}
 use Rattle.hp_outside.specs.Lines.{is_line_feed}
 use Rattle.hp_outside.specs.declared.line_end.Judgement.TheVariants.{Line, TooLong, Open}
-use Rattle.hp_outside.specs.Faults.{Rose}
+use Rattle.hp_outside.specs.Faults.{Faulted}
 use Rattle.hp_outside.proofs.LineLemmas.{told_rest, line_answer, line_given, line_has_feed, last_has_none}
 use Rattle.hp_outside.proofs.LineLemmas.{too_long_answer, too_long_read, position_or_len-grown, last_given, last_answer}
 use Rattle.hp_outside.proofs.LineLemmas.{last_short}
@@ -217,7 +217,7 @@ returns-in-Err g c =
             old.within (sym (old.waited decided).1)));
         unread = λ ended. absurd (false≢true (sym c.if-self.false ∙ ap (λ s. s.ended) inside ∙ (old.idle ended).1));
         failed =
-            λ none failed. subst (λ (n : ℕ). Rose n (g.S.Store.faults c.take_more.new.store)) old.faults
+            λ none failed. subst (λ (n : ℕ). Faulted n (g.S.Store.faults c.take_more.new.store)) old.faults
             more.took.failed.1;
         sound = λ other. absurd (other (ap Err more.took.failed.0));
         end =

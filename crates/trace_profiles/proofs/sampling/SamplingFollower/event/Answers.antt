@@ -1,6 +1,6 @@
 use Rattle.std.proofs.Common.{Ok, arith, rules}
 use Rattle.massif_sample.specs.declared.fault.SampleFault.TheVariants as sample
-use Rattle.trace_profiles.proofs.LivesLemmas.{line_length}
+use Rattle.trace_profiles.proofs.LifetimesLemmas.{line_length}
 use Rattle.trace_profiles.proofs.SamplingLemmas.{at_some, event_followed, event_let_go, fault_told, known_told}
 use Rattle.trace_profiles.proofs.SamplingLemmas.{left_alone}
 use Rattle.trace_profiles.proofs.sampling.SamplingFollower.event.Goals as goal
