@@ -1,5 +1,5 @@
 -- When the blocks of a stack came and went: the time of an allocation or a free is its number among
--- them, from 1. The time of an allocation or a free is its number among them, from 1.
+-- them, from 1.
 use Rattle.std.specs.Prelude.{ℕ, List, length, sum_by, if◌then◌else◌}
 use Rattle.std.specs.List.{range_with_len, zip}
 use Rattle.live_ledger.specs.declared.event.Event.{Event}

@@ -1,6 +1,5 @@
--- The events of a generated trace: allocations and frees of its infos. The events of a generated
--- trace: each draws an info and a kind, and is a free only where the info was allocated more often
--- than freed by the events before.
+-- The events of a generated trace: each draws an info and a kind, and is a free only where the info
+-- was allocated more often than freed by the events before.
 use Rattle.std.specs.Prelude.{ℕ, zero, suc, ◌+◌, ◌*◌, ◌==◌, ◌&&◌, nat_lt, Bool, not, List, [], ◌∷◌, ◌++◌}
 use Rattle.std.specs.List.{count_by}
 use Rattle.trace_gen.specs.Sizes.{Sizes}
