@@ -5,14 +5,4 @@
 #![tactic(auto)]
 
 #[cfg(test)]
-mod failing;
-#[cfg(test)]
-mod files;
-#[cfg(test)]
-mod lines;
-#[cfg(test)]
-mod numbers;
-#[cfg(test)]
-mod sinks;
-#[cfg(test)]
-mod stores;
+mod tests;

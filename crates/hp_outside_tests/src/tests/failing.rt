@@ -1,6 +1,6 @@
 //! A system of which every call fails, and what its store tells of that. What calls in a row answer is one text.
 
-use crate::files::put_named;
+use crate::tests::files::put_named;
 use hp_num::{NoMemory, put_bytes};
 use hp_outside::{FsStore, Limits};
 use std::alloc::{Allocator, Global};

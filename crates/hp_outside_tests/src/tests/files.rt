@@ -2,7 +2,7 @@
 ghost use Rattle.std.specs.Prelude.{◌≡◌, ◌+◌, ◌-◌, ◌^◌, ◌<◌, ℕ, List, None, IsTrue};
 ghost use Rattle.hp_outside.specs.Folder.{file_of};
 
-use crate::stores::opens;
+use crate::tests::stores::opens;
 use hp_num::{NoMemory, put_bytes};
 use hp_outside::{FsStore, Limits, MemStore, Store, read_whole};
 use std::alloc::Global;

@@ -1,5 +1,5 @@
 use Rattle.std.proofs.Common.{◌≡◌, IsTrue}
-use Rattle.hp_outside_tests.proofs.stores.put_reads.Given as goal
+use Rattle.hp_outside_tests.proofs.tests.stores.put_reads.Given as goal
 
 -- a file stays current, and no other is opened
 abbrev pub invariant-reads : goal.invariant-reads

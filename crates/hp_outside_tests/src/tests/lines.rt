@@ -3,7 +3,7 @@ ghost use Rattle.std.specs.Prelude.{◌≡◌, [], ℕ, List, None, IfOk, IfSome
 ghost use Rattle.hp_outside.specs.Folder.{file_of};
 ghost use Rattle.hp_outside.specs.Taken.{WhereTold};
 
-use crate::stores::opens;
+use crate::tests::stores::opens;
 use hp_num::{NoMemory, put_bytes, put_dec};
 use hp_outside::{Limits, LineFault, LineReader, MemStore, Span, Store, SureStore};
 use std::alloc::Global;

@@ -2,7 +2,7 @@
 use Rattle.std.proofs.Common.{rules, ◌≡◌, ◌≢◌, ◌<◌, ℕ, List, [], ◌∷◌, length, take, refl, arith}
 use Rattle.std.proofs.lemmas.List.Elements.{All-cons, All-nil}
 use Rattle.hp_outside.specs.WholeLines.{IsLineText, IsWholeLines}
-use Rattle.hp_outside_tests.proofs.lines.pass_ready.Goals as goal
+use Rattle.hp_outside_tests.proofs.tests.lines.pass_ready.Goals as goal
 
 -- a byte more that is no line feed
 other : (byte : ℕ) (line : List ℕ) → 10 < byte → IsLineText line → IsLineText (byte ∷ line)

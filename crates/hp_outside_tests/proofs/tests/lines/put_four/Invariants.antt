@@ -1,6 +1,6 @@
 use Rattle.std.proofs.Common.{◌≡◌, [], true, is_some, IsTrue}
 use Rattle.hp_outside.specs.Taken.{WhereTold}
-use Rattle.hp_outside_tests.proofs.lines.put_four.Given as goal
+use Rattle.hp_outside_tests.proofs.tests.lines.put_four.Given as goal
 
 -- a file is current, nothing is left of it once its end was seen, and no other is opened
 abbrev pub invariant-calls : goal.invariant-calls
