@@ -1,8 +1,8 @@
 //! Lines that are taken at once give what they give one by one, however the file is cut into reads.
 ghost use Rattle.std.specs.Prelude.{◌≡◌};
 
-use crate::runs::{TEXTS, folder, sink};
 use crate::signs::Signs;
+use crate::tests::runs::{TEXTS, folder, sink};
 use command_frame::{RunContext, read_named_file};
 use hp_num::NoMemory;
 use hp_outside::{Limits, LineReader, MemSink, MemStore};

@@ -1,6 +1,6 @@
 //! Texts that are written while they are made.
 use crate::countdown::Countdown;
-use crate::runs::{TEXTS, sink};
+use crate::tests::runs::{TEXTS, sink};
 use command_frame::{RunContext, run_text};
 use hp_outside::{Limits, MemSink};
 use std::alloc::Global;

@@ -2,7 +2,7 @@
 ghost use Rattle.std.specs.Prelude.{◌≡◌};
 
 use crate::countdown::Countdown;
-use crate::runs::{TEXTS, sink};
+use crate::tests::runs::{TEXTS, sink};
 use command_frame::{Halt, Paged, deliver};
 use hp_num::{NoMemory, put_bytes, put_dec};
 use std::alloc::Global;
