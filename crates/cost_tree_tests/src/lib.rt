@@ -4,6 +4,4 @@
 #![tactic(auto)]
 
 #[cfg(test)]
-mod forked;
-#[cfg(test)]
-mod trees;
+mod tests;

@@ -1,5 +1,5 @@
 use Rattle.std.proofs.Common.{◌≡◌, ◌≤◌, ◌^◌, take, sum}
-use Rattle.cost_tree_tests.proofs.trees.have_sum.Given as goal
+use Rattle.cost_tree_tests.proofs.tests.trees.have_sum.Given as goal
 
 abbrev pub invariant-loop-cost : goal.invariant-loop-cost
 invariant-loop-cost l = record {

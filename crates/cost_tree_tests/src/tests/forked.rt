@@ -2,7 +2,7 @@
 ghost use Rattle.std.specs.Prelude.{◌≡◌, ◌^◌, ◌≤◌, All, IfOk, length, sum};
 ghost use Rattle.cost_tree.specs.Texts.{AreTexts, IsText};
 
-use crate::trees::{have_sum, put_figures};
+use crate::tests::trees::{have_sum, put_figures};
 use cost_tree::{
     Chains, Costing, ForkedFronts, FrontLineTaker, Scale, ShownLine, ShownPlace, take_front_lines,
 };

@@ -1,7 +1,7 @@
 use Rattle.std.proofs.Common.{rules, arith, ◌≡◌, ℕ, ◌<◌, List, length, ap, sym, ◌∙◌}
 use Rattle.std.specs.Prelude.{Some, slice_index_or}
 use Rattle.std.proofs.lemmas.Option.{slice_get-get_or}
-use Rattle.cost_tree_tests.proofs.forked.written.Goals as goal
+use Rattle.cost_tree_tests.proofs.tests.forked.written.Goals as goal
 
 -- the costs are those of the slice
 pub take_front_lines-requires-clause-stated : goal.take_front_lines-requires-clause-stated
