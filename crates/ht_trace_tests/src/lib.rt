@@ -10,18 +10,4 @@
 #![tactic(auto)]
 
 #[cfg(test)]
-mod figures;
-#[cfg(test)]
-mod flames;
-#[cfg(test)]
-mod frames;
-#[cfg(test)]
-mod fronts;
-#[cfg(test)]
-mod lines;
-#[cfg(test)]
-mod names;
-#[cfg(test)]
-mod nodes;
-#[cfg(test)]
-mod written_lines;
+mod tests;

@@ -1,4 +1,4 @@
-use Rattle.ht_trace_tests.proofs.figures.worked_figures.Given as goal
+use Rattle.ht_trace_tests.proofs.tests.figures.worked_figures.Given as goal
 
 -- the counter is of the blank ledger that is passed
 abbrev pub ghosts-tells : goal.ghosts-tells

@@ -19,8 +19,8 @@ enum Step {
 }
 
 /// A trace of two infos in stacks 0 to 2, and what is told of it: the live bytes after each step, or why it isn't taken; the events,
-/// calls, temporary calls, allocated bytes, live bytes and blocks, the peak and its moment; of each stack the live bytes and
-/// blocks, calls, temporary calls, allocated bytes, and its bytes and blocks at the peak; and the calls of each info.
+/// calls, temporary calls, allocated bytes, live bytes and blocks, the peak and its moment; of each stack, in one line, the live
+/// bytes and blocks, calls, temporary calls, allocated bytes, and its bytes and blocks at the peak; and the calls of each info.
 pub(crate) struct Case {
     infos: [(u32, u64); 2],
     steps: &'static [Step],
@@ -34,9 +34,7 @@ pub(crate) static CASES: [Case; 6] = [
         told: b"\
 0.
 0 0 0 0 0 0 0 0
-0 0 0 0 0 0 0
-0 0 0 0 0 0 0
-0 0 0 0 0 0 0
+0 0 0 0 0 0 0|0 0 0 0 0 0 0|0 0 0 0 0 0 0|
 0 0
 ",
     },
@@ -52,9 +50,7 @@ pub(crate) static CASES: [Case; 6] = [
         told: b"\
 100.132.32.132.
 4 3 0 232 132 2 132 2
-132 2 3 0 232 132 2
-0 0 0 0 0 0 0
-0 0 0 0 0 0 0
+132 2 3 0 232 132 2|0 0 0 0 0 0 0|0 0 0 0 0 0 0|
 2 1
 ",
     },
@@ -65,9 +61,7 @@ pub(crate) static CASES: [Case; 6] = [
         told: b"\
 100.100.0.100.
 3 2 1 200 100 1 100 1
-0 0 0 0 0 0 0
-100 1 1 0 100 0 0
-0 0 1 1 100 100 1
+0 0 0 0 0 0 0|100 1 1 0 100 0 0|0 0 1 1 100 100 1|
 1 1
 ",
     },
@@ -86,9 +80,7 @@ pub(crate) static CASES: [Case; 6] = [
         told: b"\
 50.100.50.150.50.100.150.
 7 5 2 300 150 3 150 4
-0 0 0 0 0 0 0
-0 0 1 1 100 100 1
-150 3 4 1 200 50 1
+0 0 0 0 0 0 0|0 0 1 1 100 100 1|150 3 4 1 200 50 1|
 1 4
 ",
     },
@@ -98,9 +90,7 @@ pub(crate) static CASES: [Case; 6] = [
         told: b"\
 free of nothing.
 0 0 0 0 0 0 0 0
-0 0 0 0 0 0 0
-0 0 0 0 0 0 0
-0 0 0 0 0 0 0
+0 0 0 0 0 0 0|0 0 0 0 0 0 0|0 0 0 0 0 0 0|
 0 0
 ",
     },
@@ -111,22 +101,20 @@ free of nothing.
         told: b"\
 2305843009213693952.4611686018427387904.too many bytes allocated.
 2 2 0 4611686018427387904 4611686018427387904 2 4611686018427387904 2
-4611686018427387904 2 2 0 4611686018427387904 4611686018427387904 2
-0 0 0 0 0 0 0
-0 0 0 0 0 0 0
+4611686018427387904 2 2 0 4611686018427387904 4611686018427387904 2|0 0 0 0 0 0 0|0 0 0 0 0 0 0|
 2 0
 ",
     },
 ];
 
-/// Appends numbers as a line, with blanks between them.
-fn put_row(out: &mut Vec<u8>, first: u64, others: &[u64]) -> Result<(), NoMemory> {
+/// Appends numbers with blanks between them, and what ends them.
+fn put_row(out: &mut Vec<u8>, first: u64, others: &[u64], end: &[u8]) -> Result<(), NoMemory> {
     put_dec(out, first)?;
     for n in others {
         put_bytes(out, b" ")?;
         put_dec(out, *n)?;
     }
-    put_bytes(out, b"\n")
+    put_bytes(out, end)
 }
 
 /// Adds an info for blocks of a size, if the stack is held.
@@ -217,7 +205,7 @@ fn put_totals(out: &mut Vec<u8>, peaks: &Peaks) -> Result<(), NoMemory> {
         peaks.peak_total(),
         peaks.peak_moment(),
     ];
-    put_row(out, totals.events, &others)
+    put_row(out, totals.events, &others, b"\n")
 }
 
 /// Appends the figures of a stack that is held, and its share in the peak.
@@ -233,7 +221,7 @@ fn put_stack(out: &mut Vec<u8>, peaks: &Peaks, stack: u32) -> Result<(), NoMemor
         peaks.peak_of(stack),
         peaks.peak_blocks_of(stack),
     ];
-    put_row(out, figures.live, &others)
+    put_row(out, figures.live, &others, b"|")
 }
 
 /// Appends all figures of a trace.
@@ -242,11 +230,12 @@ fn put_figures(out: &mut Vec<u8>, peaks: &Peaks) -> Result<(), NoMemory> {
     for stack in 0..peaks.ledger().stacks() {
         put_stack(out, peaks, stack)?;
     }
+    put_bytes(out, b"\n")?;
     if peaks.ledger().infos() < 2 {
         return put_bytes(out, b"no infos");
     }
     let calls = peaks.ledger().info_calls(1);
-    put_row(out, peaks.ledger().info_calls(0), &[calls])
+    put_row(out, peaks.ledger().info_calls(0), &[calls], b"\n")
 }
 
 /// Takes a trace by peaks without events, and tells of it.

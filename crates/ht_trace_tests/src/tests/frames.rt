@@ -2,7 +2,7 @@
 //! each, so that a test is a few calls.
 ghost use Rattle.ht_trace.specs.IsFrame.{IsFrame};
 
-use crate::lines::{WORKED, read_lines};
+use crate::tests::lines::{WORKED, read_lines};
 use hp_num::{NoMemory, put_bytes, put_dec};
 use ht_trace::{FrameAt, LineError, Style, Tables};
 use std::alloc::Global;

@@ -1,8 +1,8 @@
 //! The flame stacks of a worked trace, by each cost.
 ghost use Rattle.std.specs.Prelude.{◌≡◌, ◌<◌};
 
-use crate::figures::{CASES, put_trace};
-use crate::lines::{WORKED, read_lines};
+use crate::tests::figures::{CASES, put_trace};
+use crate::tests::lines::{WORKED, read_lines};
 use hp_num::NoMemory;
 use ht_print::{FlameCost, put_flame};
 use ht_trace::Tables;

@@ -1,4 +1,4 @@
-//! Worked traces line by line. A trace is one text, and what its lines answer is another with a line for each.
+//! Worked traces line by line. A trace is one text, and what its lines answer, in a row, is another.
 
 use hp_num::{NoMemory, put_bytes, put_hex};
 use ht_trace::{LineError, Step, Tables};
@@ -49,7 +49,7 @@ fn put_answers(
 ) -> io::Result<()> {
     for line in text.split(|byte| *byte == b'\n') {
         let answer = read(rt, tables, line);
-        writeln!(out, "{answer:?}")?;
+        write!(out, "{answer:?}, ")?;
     }
     Ok(())
 }
@@ -65,11 +65,11 @@ fn put_tables(tables: &Tables, out: &mut Vec<u8>) -> io::Result<()> {
         let info = tables.info(n);
         write!(out, ", {info:?}")?;
     }
-    writeln!(out)
+    Ok(())
 }
 
 /// The first lines of a trace, none of which is refused, how many nodes of a chain follow them, and the answers to the lines that
-/// come then, with the tables as the last line.
+/// come then, with the tables behind them.
 struct Case {
     front: &'static [u8],
     nodes: u32,
@@ -82,26 +82,15 @@ static CASES: [Case; 8] = [
         front: b"#",
         nodes: 0,
         lines: WORKED,
-        answers: b"Ok(Nothing)
-Ok(Nothing)
-Ok(Nothing)
-Ok(Nothing)
-Ok(Nothing)
-Ok(Nothing)
-Ok(Nothing)
-Ok(Nothing)
-Ok(Nothing)
-Ok(Stack)
-Ok(Stack)
-Ok(Info { stack: 2, size: 100 })
-Ok(Info { stack: 1, size: 100 })
-Ok(Event { event: Alloc { info: 0, stack: 2, size: 100 } })
-Ok(Event { event: Tick { ms: 5 } })
-Ok(Nothing)
-Ok(Event { event: Free { info: 0, stack: 2, size: 100 } })
-Ok(Event { event: Alloc { info: 1, stack: 1, size: 100 } })
-end Ok(()), stacks 3, command demo, Some((100, 2)), Some((100, 1)), None
-",
+        answers: b"\
+            Ok(Nothing), Ok(Nothing), Ok(Nothing), Ok(Nothing), Ok(Nothing), Ok(Nothing), \
+            Ok(Nothing), Ok(Nothing), Ok(Nothing), Ok(Stack), Ok(Stack), \
+            Ok(Info { stack: 2, size: 100 }), Ok(Info { stack: 1, size: 100 }), \
+            Ok(Event { event: Alloc { info: 0, stack: 2, size: 100 } }), \
+            Ok(Event { event: Tick { ms: 5 } }), Ok(Nothing), \
+            Ok(Event { event: Free { info: 0, stack: 2, size: 100 } }), \
+            Ok(Event { event: Alloc { info: 1, stack: 1, size: 100 } }), \
+            end Ok(()), stacks 3, command demo, Some((100, 2)), Some((100, 1)), None",
     },
     Case {
         front: WORKED,
@@ -126,66 +115,41 @@ a 1 3
 z what
 
 X other",
-        answers: b"Err(SecondVersion)
-Err(BadVersion)
-Err(UnknownString)
-Err(UnknownString)
-Err(UnknownString)
-Err(UnknownString)
-Err(MissingField)
-Err(UnknownInstruction)
-Err(UnknownInstruction)
-Err(UnknownInstruction)
-Err(UnknownParent)
-Err(UnknownParent)
-Err(UnknownTrace)
-Err(UnknownAllocation)
-Err(UnknownAllocation)
-Err(NotInterpreted)
-Err(BadField)
-Ok(Nothing)
-Ok(Nothing)
-Ok(Nothing)
-end Ok(()), stacks 3, command demo, Some((100, 2)), Some((100, 1)), None
-",
+        answers: b"\
+            Err(SecondVersion), Err(BadVersion), Err(UnknownString), Err(UnknownString), \
+            Err(UnknownString), Err(UnknownString), Err(MissingField), Err(UnknownInstruction), \
+            Err(UnknownInstruction), Err(UnknownInstruction), Err(UnknownParent), \
+            Err(UnknownParent), Err(UnknownTrace), Err(UnknownAllocation), \
+            Err(UnknownAllocation), Err(NotInterpreted), Err(BadField), Ok(Nothing), Ok(Nothing), \
+            Ok(Nothing), \
+            end Ok(()), stacks 3, command demo, Some((100, 2)), Some((100, 1)), None",
     },
     // Only a comment is taken before the version line.
     Case {
         front: b"#",
         nodes: 0,
         lines: b"# made by hand",
-        answers: b"Ok(Nothing)
-end Err(NoVersion), stacks 1, command -, None, None, None
-",
+        answers: b"\
+            Ok(Nothing), \
+            end Err(NoVersion), stacks 1, command -, None, None, None",
     },
     Case {
         front: b"#",
         nodes: 0,
         lines: b"# made by hand\ns main\n+0\n\nz\nv 1 9\nvx",
-        answers: b"Ok(Nothing)
-Err(NoVersion)
-Err(NoVersion)
-Err(NoVersion)
-Err(NoVersion)
-Err(BadVersion)
-Err(BadField)
-end Err(NoVersion), stacks 1, command -, None, None, None
-",
+        answers: b"\
+            Ok(Nothing), Err(NoVersion), Err(NoVersion), Err(NoVersion), Err(NoVersion), \
+            Err(BadVersion), Err(BadField), \
+            end Err(NoVersion), stacks 1, command -, None, None, None",
     },
     Case {
         front: b"#",
         nodes: 0,
         lines: b"# made by hand\ns main\n+0\n\nz\nv 1 9\nvx\nv 10500",
-        answers: b"Ok(Nothing)
-Err(NoVersion)
-Err(NoVersion)
-Err(NoVersion)
-Err(NoVersion)
-Err(BadVersion)
-Err(BadField)
-Ok(Nothing)
-end Ok(()), stacks 1, command -, None, None, None
-",
+        answers: b"\
+            Ok(Nothing), Err(NoVersion), Err(NoVersion), Err(NoVersion), Err(NoVersion), \
+            Err(BadVersion), Err(BadField), Ok(Nothing), \
+            end Ok(()), stacks 1, command -, None, None, None",
     },
     // A string that comes twice has two numbers, and a module that is named by its size is read in version 3.
     Case {
@@ -198,37 +162,28 @@ m 1 -
 i 1 2 2
 i 1 3
 i 1 0 0 0 ffffffffffffffff",
-        answers: b"Ok(Nothing)
-Ok(Nothing)
-Ok(Nothing)
-Ok(Nothing)
-Ok(Nothing)
-Err(UnknownString)
-Ok(Nothing)
-end Ok(()), stacks 1, command -, None, None, None
-",
+        answers: b"\
+            Ok(Nothing), Ok(Nothing), Ok(Nothing), Ok(Nothing), Ok(Nothing), Err(UnknownString), \
+            Ok(Nothing), \
+            end Ok(()), stacks 1, command -, None, None, None",
     },
     // A chain of 4,096 nodes is taken, and nothing below it.
     Case {
         front: b"v 10500 2\ni 10 0",
         nodes: 4096,
         lines: b"t 1 1000\nt 1 fff",
-        answers: b"Err(TooDeep)
-Ok(Stack)
-end Ok(()), stacks 4098, command -, None, None, None
-",
+        answers: b"\
+            Err(TooDeep), Ok(Stack), \
+            end Ok(()), stacks 4098, command -, None, None, None",
     },
     // Inlined frames count: a chain of 2,048 nodes of two frames each has 4,096.
     Case {
         front: b"v 10500 2\ns main\ni 10 0 1 1 0 6\ni 20 0",
         nodes: 2048,
         lines: b"t 2 800\nt 2 7ff\nt 1 801\nt 2 801",
-        answers: b"Err(TooDeep)
-Ok(Stack)
-Err(TooDeep)
-Ok(Stack)
-end Ok(()), stacks 2051, command -, None, None, None
-",
+        answers: b"\
+            Err(TooDeep), Ok(Stack), Err(TooDeep), Ok(Stack), \
+            end Ok(()), stacks 2051, command -, None, None, None",
     },
 ];
 
