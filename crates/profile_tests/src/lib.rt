@@ -4,18 +4,4 @@
 #![tactic(auto)]
 
 #[cfg(test)]
-mod culling;
-#[cfg(test)]
-mod documents;
-#[cfg(test)]
-mod links;
-#[cfg(test)]
-mod pages;
-#[cfg(test)]
-mod profiles;
-#[cfg(test)]
-mod random_culls;
-#[cfg(test)]
-mod sampling;
-#[cfg(test)]
-mod texts;
+mod tests;

@@ -1,5 +1,5 @@
 use Rattle.std.proofs.Common.{◌≡◌, ℕ, ◌↔◌, Bool, false, List, [], Contains, IsTrue, rules, true≢false, sym, ◌∙◌, arith}
-use Rattle.profile_tests.proofs.sampling.peaks_of_a_sampler.Goals as goal
+use Rattle.profile_tests.proofs.tests.sampling.peaks_of_a_sampler.Goals as goal
 
 -- what answers no is one of no names
 not-named : (name : List ℕ) (answer : Bool) → answer ≡ false → (IsTrue answer ↔ Contains [] name)

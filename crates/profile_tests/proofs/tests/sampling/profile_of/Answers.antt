@@ -1,7 +1,7 @@
 use Rattle.std.proofs.Common.{[], sym, subst}
 use Rattle.std.specs.Fn.{FnReturnsAt}
 use Rattle.massif_sample.specs.FunctionNames.{AreStated}
-use Rattle.profile_tests.proofs.sampling.profile_of.Goals as goal
+use Rattle.profile_tests.proofs.tests.sampling.profile_of.Goals as goal
 
 pub follow-followed-requires-clause-stacks : goal.follow-followed-requires-clause-stacks
 follow-followed-requires-clause-stacks g c = rw c.new-tables.ensures.nodes c.in_ok-ledger.ensures.stacks

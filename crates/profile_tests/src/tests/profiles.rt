@@ -1,5 +1,5 @@
 //! Worked files, read and written, and files that are refused. Expected texts are worked out by hand.
-use crate::texts::{BLOCKS, DETAILED, FIRST_LINES, FRONT, LOOSE, LOOSE_WRITTEN};
+use crate::tests::texts::{BLOCKS, DETAILED, FIRST_LINES, FRONT, LOOSE, LOOSE_WRITTEN};
 use hp_num::{NoMemory, put_bytes, put_dec};
 use massif_file::{ProfileFault, ProfileReader, put_profile};
 use std::alloc::Global;

@@ -5,7 +5,7 @@ use Rattle.live_ledger.specs.declared.event.Event.{Event}
 use Rattle.live_ledger.specs.StandsFor as ledger_spec
 use Rattle.massif_sample.specs.FunctionNames.{AreStated, FunctionNames}
 use Rattle.massif_sample.specs.StandsFor as sample_spec
-use Rattle.profile_tests.proofs.sampling.follow.Given as goal
+use Rattle.profile_tests.proofs.tests.sampling.follow.Given as goal
 
 abbrev pub invariant-steps : goal.invariant-steps
 invariant-steps g l = record {

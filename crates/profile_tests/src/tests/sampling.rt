@@ -16,11 +16,11 @@ use massif_file::{HeapTree, Profile, Snap, TimeUnit};
 use massif_sample::{MassifOptions, SampleFault, Sampler};
 use std::alloc::Global;
 
-/// An allocation of a block of this info, or a free of one.
+/// What is done with a block.
 #[derive(Clone, Copy)]
-enum Step {
-    Alloc(u32),
-    Free(u32),
+enum Change {
+    Alloc,
+    Free,
 }
 
 /// The bytes of a block of each info. All are of stack 0.
@@ -28,15 +28,16 @@ static SIZES: [u64; 3] = [1000, 10, 1];
 
 const STEP_COUNT: usize = 8;
 
-static STEPS: [Step; STEP_COUNT] = [
-    Step::Alloc(0),
-    Step::Free(0),
-    Step::Alloc(0),
-    Step::Alloc(1),
-    Step::Free(1),
-    Step::Alloc(1),
-    Step::Alloc(2),
-    Step::Free(2),
+/// What is done with blocks of which infos.
+static STEPS: [(Change, u32); STEP_COUNT] = [
+    (Change::Alloc, 0),
+    (Change::Free, 0),
+    (Change::Alloc, 0),
+    (Change::Alloc, 1),
+    (Change::Free, 1),
+    (Change::Alloc, 1),
+    (Change::Alloc, 2),
+    (Change::Free, 2),
 ];
 
 /// The time of each snapshot, its bytes, and the lines of its tree. A peak must pass the last one by one percent: at the first free it
@@ -82,19 +83,14 @@ fn ledger_of(alloc: Global) -> Result<Ledger, NoMemory>
     Ok(ledger)
 }
 
-/// The event of a step, or `None` where the ledger doesn't hold its info.
-fn event_of(ledger: &Ledger, step: Step) -> Option<Event>
+/// The event of a block of this info, or `None` where the ledger doesn't hold the info.
+fn event_of(ledger: &Ledger, change: Change, info: u32) -> Option<Event>
     ensures { IfSome result (λ event. IsHeld ledger.now event) }
 {
-    match step {
-        Step::Alloc(info) => {
-            let (size, stack) = ledger.info(info)?;
-            Some(Event::Alloc { info, stack, size })
-        }
-        Step::Free(info) => {
-            let (size, stack) = ledger.info(info)?;
-            Some(Event::Free { info, stack, size })
-        }
+    let (size, stack) = ledger.info(info)?;
+    match change {
+        Change::Alloc => Some(Event::Alloc { info, stack, size }),
+        Change::Free => Some(Event::Free { info, stack, size }),
     }
 }
 
@@ -115,7 +111,8 @@ fn follow<A: Fn(&[u8]) -> bool, I: Fn(&[u8]) -> bool>(
         × ledger_spec.StandsFor ledger.old events }
 {
     'steps: for index in 0..STEP_COUNT {
-        let Some(event) = event_of(ledger, STEPS[index]) else {
+        let (change, info) = STEPS[index];
+        let Some(event) = event_of(ledger, change, info) else {
             return Err(SampleFault::FreeOfNothing);
         };
         sampler.event(event, ledger, tables)?;

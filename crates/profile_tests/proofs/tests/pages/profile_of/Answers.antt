@@ -1,7 +1,7 @@
 use Rattle.std.proofs.Common.{[], ◌∷◌, ◌++◌}
 use Rattle.std.proofs.lemmas.List.Elements.{All-nil, All-push}
 use Rattle.massif_file.specs.IsWritable.{IsLine}
-use Rattle.profile_tests.proofs.pages.profile_of.Goals as goal
+use Rattle.profile_tests.proofs.tests.pages.profile_of.Goals as goal
 
 pub lines-init : goal.lines-init
 lines-init c = ([], c.new-reader.ensures.stands, All-nil IsLine)

@@ -17,6 +17,8 @@ pub(crate) type Settings = (u32, u64, u64);
 enum Step {
     /// A normal offer is made, at this time and of so many bytes.
     Normal(u64, u64),
+    /// Normal offers of no bytes are made, one at each time from the first on up to the second, which are steps of their own.
+    Empty(u64, u64),
     /// A peak is offered.
     Peak(u64, u64),
     Show,
@@ -41,20 +43,11 @@ static CASES: [Case; 6] = [
         settings: (10, 1_000_000, 100),
         steps: &[
             Step::Show,
-            Step::Normal(0, 0),
-            Step::Normal(1, 0),
-            Step::Normal(2, 0),
-            Step::Normal(3, 0),
-            Step::Normal(4, 0),
-            Step::Normal(5, 0),
-            Step::Normal(6, 0),
-            Step::Normal(7, 0),
-            Step::Normal(8, 0),
+            Step::Empty(0, 9),
             Step::Show,
             Step::Normal(9, 0),
             Step::Show,
-            Step::Normal(10, 0),
-            Step::Normal(11, 0),
+            Step::Empty(10, 12),
             Step::Show,
         ],
         text: "
@@ -92,16 +85,9 @@ dropped 12
     Case {
         settings: (10, 1_000_000, 100),
         steps: &[
-            Step::Normal(0, 0),
-            Step::Normal(1, 0),
-            Step::Normal(2, 0),
+            Step::Empty(0, 3),
             Step::Peak(2, 5),
-            Step::Normal(3, 0),
-            Step::Normal(4, 0),
-            Step::Normal(5, 0),
-            Step::Normal(6, 0),
-            Step::Normal(7, 0),
-            Step::Normal(8, 0),
+            Step::Empty(3, 9),
             Step::Show,
         ],
         text: "nnnpnnnnnn
@@ -141,9 +127,7 @@ dropped 4
             Step::Normal(1, 0),
             Step::Normal(2, 9),
             Step::Show,
-            Step::Normal(3, 0),
-            Step::Normal(4, 0),
-            Step::Normal(5, 0),
+            Step::Empty(3, 6),
         ],
         text: "npnd
 0 0 0 0 normal
@@ -158,13 +142,7 @@ nnddropped 7
     Case {
         settings: (10, 1_000_000, 0),
         steps: &[
-            Step::Normal(0, 0),
-            Step::Normal(1, 0),
-            Step::Normal(2, 0),
-            Step::Normal(3, 0),
-            Step::Normal(4, 0),
-            Step::Normal(5, 0),
-            Step::Normal(6, 0),
+            Step::Empty(0, 7),
             Step::Cull,
             Step::Show,
             Step::First,
@@ -189,8 +167,7 @@ dropped 7
     Case {
         settings: (10, 1, 0),
         steps: &[
-            Step::Normal(0, 0),
-            Step::Normal(1, 0),
+            Step::Empty(0, 2),
             Step::Show,
             Step::First,
             Step::Show,
@@ -319,6 +296,24 @@ fn put_first(array: &mut SnapArray<Load>, out: &mut Vec<u8>) -> Result<(), NoMem
     }
 }
 
+/// Makes normal offers of no bytes, of which the first has this number, and appends a letter for each.
+fn put_empty<'a>(
+    rt: &impl Abort,
+    array: &mut SnapArray<Load<'a>>,
+    drops: &'a Cell<u64>,
+    first: u64,
+    end: u64,
+    number: u64,
+    out: &mut Vec<u8>,
+) -> Result<(), NoMemory> {
+    for time in first..end {
+        let number = number.wrapping_add(time.wrapping_sub(first));
+        let taken = offer(rt, array, time, 0, false, Load { number, drops });
+        put_bytes(out, letter(taken))?;
+    }
+    Ok(())
+}
+
 /// Does a step, which has this number, and appends what it comes to.
 fn put_step<'a>(
     rt: &impl Abort,
@@ -333,6 +328,7 @@ fn put_step<'a>(
             let taken = offer(rt, array, time, bytes, false, Load { number, drops });
             put_bytes(out, letter(taken))
         }
+        Step::Empty(first, end) => put_empty(rt, array, drops, first, end, number, out),
         Step::Peak(time, bytes) => {
             let taken = offer(rt, array, time, bytes, true, Load { number, drops });
             put_bytes(out, letter(taken))
@@ -361,9 +357,17 @@ fn put_steps<'a>(
     let mut number = 0u64;
     for step in steps {
         put_step(rt, array, drops, *step, number, out)?;
-        number = number.wrapping_add(1);
+        number = number.wrapping_add(count_of(*step));
     }
     Ok(())
+}
+
+/// How many steps of its own a step is.
+fn count_of(step: Step) -> u64 {
+    match step {
+        Step::Empty(first, end) => end.saturating_sub(first),
+        _ => 1,
+    }
 }
 
 /// An array without snapshots.

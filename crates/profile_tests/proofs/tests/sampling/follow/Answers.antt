@@ -1,5 +1,5 @@
 use Rattle.std.proofs.Common.{◌++◌, ◌∷◌, [], length, ap, ◌∙◌, arith, rules}
-use Rattle.profile_tests.proofs.sampling.follow.Goals as goal
+use Rattle.profile_tests.proofs.tests.sampling.follow.Goals as goal
 
 pub steps-init : goal.steps-init
 steps-init g c = record {

@@ -1,5 +1,5 @@
 use Rattle.std.proofs.Common.{[]}
-use Rattle.profile_tests.proofs.sampling.ledger_of.Goals as goal
+use Rattle.profile_tests.proofs.tests.sampling.ledger_of.Goals as goal
 
 pub returns-clause-stands : goal.returns-clause-stands
 returns-clause-stands c =

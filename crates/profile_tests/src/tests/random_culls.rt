@@ -1,6 +1,6 @@
 //! Culls of random arrays, beside a slow writer of the rule.
 
-use crate::culling::{Load, Settings, array_of, offer};
+use crate::tests::culling::{Load, Settings, array_of, offer};
 use hp_num::NoMemory;
 use massif_cull::{Kind, SnapArray, SnapEntry, Taken};
 use std::alloc::Global;

@@ -1,5 +1,5 @@
 use Rattle.std.proofs.Common.{refl, arith}
-use Rattle.profile_tests.proofs.sampling.options.Goals as goal
+use Rattle.profile_tests.proofs.tests.sampling.options.Goals as goal
 
 pub returns : goal.returns
 returns c = record {
