@@ -1,6 +1,6 @@
 //! `print` over worked traces: what its options show, the order of what it shows, and leaks that are suppressed.
 
-use crate::transcript::{Transcript, WORKED, play_all};
+use crate::tests::transcript::{Transcript, WORKED, play_all};
 
 /// The last trace has a stack with all of the peak and one with more at another moment, which is of no account.
 const REPORTS: &str = "$ print e
@@ -25,12 +25,7 @@ MOST TEMPORARY ALLOCATIONS
   1 temporary (100.00%) in stack 2
     main (a.c:20)
 
-events: 3
-calls: 2
-temporary: 1
-allocated: 200
-peak: 100 at event 1
-leaked: 100 in 1 blocks
+events: 3 calls: 2 temporary: 1 allocated: 200 peak: 100 at event 1 leaked: 100 in 1 blocks
 [0]
 $ print --merge-backtraces=0 --print-leaks=0 --print-temporary 0 e
 MOST CALLS TO ALLOCATION FUNCTIONS
@@ -42,24 +37,14 @@ PEAK MEMORY CONSUMERS
 100 bytes (100.00%) at f (a.c:10) in stack 2
   main (a.c:20)
 
-events: 3
-calls: 2
-temporary: 1
-allocated: 200
-peak: 100 at event 1
-leaked: 100 in 1 blocks
+events: 3 calls: 2 temporary: 1 allocated: 200 peak: 100 at event 1 leaked: 100 in 1 blocks
 [0]
 $ print --merge-backtraces=0 --peak-limit=1 --print-peaks=0 --print-leaks=0 --print-temporary=0 e
 MOST CALLS TO ALLOCATION FUNCTIONS
 1 calls (50.00%) at main (a.c:20) in stack 1
 more stacks: 1
 
-events: 3
-calls: 2
-temporary: 1
-allocated: 200
-peak: 100 at event 1
-leaked: 100 in 1 blocks
+events: 3 calls: 2 temporary: 1 allocated: 200 peak: 100 at event 1 leaked: 100 in 1 blocks
 [0]
 $ print --peak-limit=1 --sub-peak-limit=0 --print-peaks=0 --print-leaks=0 --print-temporary=0 e
 MOST CALLS TO ALLOCATION FUNCTIONS
@@ -67,31 +52,15 @@ MOST CALLS TO ALLOCATION FUNCTIONS
   more stacks: 1
 more places: 1
 
-events: 3
-calls: 2
-temporary: 1
-allocated: 200
-peak: 100 at event 1
-leaked: 100 in 1 blocks
+events: 3 calls: 2 temporary: 1 allocated: 200 peak: 100 at event 1 leaked: 100 in 1 blocks
 [0]
 $ print --histogram=1 --print-allocators=0 --print-peaks=0 --print-leaks=0 --print-temporary=0 e
 SIZE HISTOGRAM
-0 to 8: 0 calls
-9 to 16: 0 calls
-17 to 32: 0 calls
-33 to 64: 0 calls
-65 to 128: 2 calls
-129 to 256: 0 calls
-257 to 512: 0 calls
-513 to 1024: 0 calls
-1025 and more: 0 calls
+0 to 8: 0 calls\n9 to 16: 0 calls\n17 to 32: 0 calls
+33 to 64: 0 calls\n65 to 128: 2 calls\n129 to 256: 0 calls
+257 to 512: 0 calls\n513 to 1024: 0 calls\n1025 and more: 0 calls
 
-events: 3
-calls: 2
-temporary: 1
-allocated: 200
-peak: 100 at event 1
-leaked: 100 in 1 blocks
+events: 3 calls: 2 temporary: 1 allocated: 200 peak: 100 at event 1 leaked: 100 in 1 blocks
 [0]
 > # a comment
 > f (
@@ -100,25 +69,14 @@ MEMORY LEAKS
 100 bytes (100.00%) at main (a.c:20)
   100 bytes (100.00%) in stack 1
 
-events: 3
-calls: 2
-temporary: 1
-allocated: 200
-peak: 100 at event 1
-leaked: 100 in 1 blocks
+events: 3 calls: 2 temporary: 1 allocated: 200 peak: 100 at event 1 leaked: 100 in 1 blocks
 [0]
 > v 10500 2
 > t 0 0
 > t 0 0
 > a 64 1
 > a 32 2
-> + 1
-> + 1
-> - 1
-> + 0
-> - 0
-> + 1
-> + 1
+> + 1\n> + 1\n> - 1\n> + 0\n> - 0\n> + 1\n> + 1
 $ print --print-allocators=0 t
 PEAK MEMORY CONSUMERS
 150 bytes (100.00%) at ??
@@ -134,12 +92,7 @@ MOST TEMPORARY ALLOCATIONS
   1 temporary (50.00%) in stack 1
   1 temporary (50.00%) in stack 2
 
-events: 7
-calls: 5
-temporary: 2
-allocated: 300
-peak: 150 at event 4
-leaked: 150 in 3 blocks
+events: 7 calls: 5 temporary: 2 allocated: 300 peak: 150 at event 4 leaked: 150 in 3 blocks
 [0]
 ";
 
@@ -153,13 +106,7 @@ const PLACES: &str = "> v 10500 2
 > t 2 0
 > a 64 1
 > a 32 2
-> + 1
-> + 1
-> - 1
-> + 0
-> - 0
-> + 1
-> + 1
+> + 1\n> + 1\n> - 1\n> + 0\n> - 0\n> + 1\n> + 1
 $ print t
 MOST CALLS TO ALLOCATION FUNCTIONS
 5 calls (100.00%) at f
@@ -180,12 +127,7 @@ MOST TEMPORARY ALLOCATIONS
   1 temporary (50.00%) in stack 1
   1 temporary (50.00%) in stack 2
 
-events: 7
-calls: 5
-temporary: 2
-allocated: 300
-peak: 150 at event 4
-leaked: 150 in 3 blocks
+events: 7 calls: 5 temporary: 2 allocated: 300 peak: 150 at event 4 leaked: 150 in 3 blocks
 [0]
 > v 10500 2
 > s main
@@ -208,22 +150,11 @@ MEMORY LEAKS
 suppressed: 25 bytes
 
 SIZE HISTOGRAM
-0 to 8: 1 calls
-9 to 16: 2 calls
-17 to 32: 0 calls
-33 to 64: 0 calls
-65 to 128: 0 calls
-129 to 256: 0 calls
-257 to 512: 0 calls
-513 to 1024: 0 calls
-1025 and more: 0 calls
+0 to 8: 1 calls\n9 to 16: 2 calls\n17 to 32: 0 calls
+33 to 64: 0 calls\n65 to 128: 0 calls\n129 to 256: 0 calls
+257 to 512: 0 calls\n513 to 1024: 0 calls\n1025 and more: 0 calls
 
-events: 3
-calls: 3
-temporary: 0
-allocated: 33
-peak: 33 at event 3
-leaked: 33 in 3 blocks
+events: 3 calls: 3 temporary: 0 allocated: 33 peak: 33 at event 3 leaked: 33 in 3 blocks
 [0]
 > v 10500 2
 $ print --merge-backtraces=0 --histogram=1 --print-allocators=0 --print-peaks=0 --print-temporary=0 t
@@ -231,22 +162,11 @@ MEMORY LEAKS
 (none)
 
 SIZE HISTOGRAM
-0 to 8: 0 calls
-9 to 16: 0 calls
-17 to 32: 0 calls
-33 to 64: 0 calls
-65 to 128: 0 calls
-129 to 256: 0 calls
-257 to 512: 0 calls
-513 to 1024: 0 calls
-1025 and more: 0 calls
+0 to 8: 0 calls\n9 to 16: 0 calls\n17 to 32: 0 calls
+33 to 64: 0 calls\n65 to 128: 0 calls\n129 to 256: 0 calls
+257 to 512: 0 calls\n513 to 1024: 0 calls\n1025 and more: 0 calls
 
-events: 0
-calls: 0
-temporary: 0
-allocated: 0
-peak: 0 at event 0
-leaked: 0 in 0 blocks
+events: 0 calls: 0 temporary: 0 allocated: 0 peak: 0 at event 0 leaked: 0 in 0 blocks
 [0]
 ";
 
@@ -256,12 +176,7 @@ MEMORY LEAKS
 (none)
 suppressed: 100 bytes
 
-events: 3
-calls: 2
-temporary: 1
-allocated: 200
-peak: 100 at event 1
-leaked: 100 in 1 blocks
+events: 3 calls: 2 temporary: 1 allocated: 200 peak: 100 at event 1 leaked: 100 in 1 blocks
 [0]
 ";
 

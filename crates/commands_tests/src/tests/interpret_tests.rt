@@ -1,6 +1,6 @@
 //! `interpret` over worked raw traces with their symbols, its refusals, and a read that fails.
 
-use crate::transcript::{SOUND, Setting, Transcript, play_all, plays};
+use crate::tests::transcript::{SOUND, Setting, Transcript, play_settings};
 
 const INTERPRETED: &str = "> v 10500 2
 > x app
@@ -251,33 +251,27 @@ heapsuite: t: cannot read
 [3]
 ";
 
-static RUNS: [Transcript; 3] = [
-    ("interpret", "", INTERPRETED),
-    ("interpret by tables", "", TABLES),
-    ("interpret refuses", "", REFUSED),
+static RUNS: [(Setting, Transcript); 5] = [
+    (SOUND, ("interpret", "", INTERPRETED)),
+    (SOUND, ("interpret by tables", "", TABLES)),
+    (SOUND, ("interpret refuses", "", REFUSED)),
+    (
+        Setting {
+            symbols: SYMBOLS,
+            ..SOUND
+        },
+        ("interpret by names", "", NAMED),
+    ),
+    (
+        Setting {
+            failing_store_call: 3,
+            ..SOUND
+        },
+        ("interpret up to a failed read", "", FAILED_READ),
+    ),
 ];
 
 #[test]
 fn interpretations(rt: HostRuntime) {
-    play_all(&rt, rt.alloc(), &RUNS);
-    let setting = Setting {
-        symbols: SYMBOLS,
-        ..SOUND
-    };
-    plays(
-        &rt,
-        rt.alloc(),
-        &setting,
-        &("interpret by names", "", NAMED),
-    );
-    let setting = Setting {
-        failing_store_call: 3,
-        ..SOUND
-    };
-    plays(
-        &rt,
-        rt.alloc(),
-        &setting,
-        &("interpret up to a failed read", "", FAILED_READ),
-    );
+    play_settings(&rt, rt.alloc(), &RUNS);
 }

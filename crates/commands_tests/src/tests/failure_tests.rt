@@ -1,7 +1,7 @@
 //! Outputs without room, and the place of a failed read among the lines. Each failing call of each command is in
 //! `failing_calls`.
 
-use crate::transcript::{SOUND, Setting, TWO_SIZES, plays};
+use crate::tests::transcript::{SOUND, Setting, TWO_SIZES, Transcript, play_settings};
 
 /// Standard output has room for 7 bytes.
 const FULL_OUTPUT: &str = "$ summary t
@@ -15,6 +15,14 @@ usage: he[4]
 $ 
 usage: he[4]
 ";
+
+/// A read gives 32 bytes, and the second one fails.
+const FAILING_THIRD: Setting = Setting {
+    piece: 32,
+    line: 19,
+    failing_store_call: 3,
+    ..SOUND
+};
 
 /// All bytes are read, and the next read fails: a fault of a line that was taken with its line feed, or of a line's length, is
 /// told in its stead.
@@ -40,44 +48,29 @@ heapsuite: t: cannot read
 [3]
 ";
 
+static RUNS: [(Setting, Transcript); 4] = [
+    (
+        Setting {
+            out_room: 7,
+            ..SOUND
+        },
+        ("full output", TWO_SIZES, FULL_OUTPUT),
+    ),
+    (
+        Setting {
+            err_room: 9,
+            ..SOUND
+        },
+        ("full messages", "", FULL_MESSAGES),
+    ),
+    (FAILING_THIRD, ("failed reads", "", FAILED_READS)),
+    (
+        FAILING_THIRD,
+        ("a failed second read", TWO_SIZES, FAILED_SECOND_READ),
+    ),
+];
+
 #[test]
 fn failed_calls(rt: HostRuntime) {
-    let setting = Setting {
-        out_room: 7,
-        ..SOUND
-    };
-    plays(
-        &rt,
-        rt.alloc(),
-        &setting,
-        &("full output", TWO_SIZES, FULL_OUTPUT),
-    );
-    let setting = Setting {
-        err_room: 9,
-        ..SOUND
-    };
-    plays(
-        &rt,
-        rt.alloc(),
-        &setting,
-        &("full messages", "", FULL_MESSAGES),
-    );
-    let setting = Setting {
-        piece: 32,
-        line: 19,
-        failing_store_call: 3,
-        ..SOUND
-    };
-    plays(
-        &rt,
-        rt.alloc(),
-        &setting,
-        &("failed reads", "", FAILED_READS),
-    );
-    plays(
-        &rt,
-        rt.alloc(),
-        &setting,
-        &("a failed second read", TWO_SIZES, FAILED_SECOND_READ),
-    );
+    play_settings(&rt, rt.alloc(), &RUNS);
 }

@@ -1,7 +1,7 @@
 //! Every call of a run that can fail, failed once: each call on the store, on standard output and on standard error, for
 //! each command.
 
-use crate::transcript::{DEMO, MASSIF, Outcome, RAW, SOUND, Setting, TWO_SIZES, run_words};
+use crate::tests::transcript::{DEMO, MASSIF, Outcome, RAW, SOUND, Setting, TWO_SIZES, run_words};
 use hp_num::{NoMemory, put_bytes, put_dec};
 use std::alloc::Global;
 use std::process::Abort;
@@ -159,28 +159,23 @@ err 1: all [4]
 ";
 
 /// Each file is read in one piece, and then its end is found.
-const OF_A_TRACE: &str = "store 1: nothing [3] heapsuite: e: cannot open
-store 2: nothing [3] heapsuite: e: cannot read
-store 3: nothing [3] heapsuite: e: cannot read
+const OF_A_TRACE: &str =
+    "store 1: nothing [3] heapsuite: e: cannot open\nstore 2: nothing [3] heapsuite: e: cannot read\nstore 3: nothing [3] heapsuite: e: cannot read
 out 1: nothing [4] heapsuite: write failed
 out 2: all [4]
 err 1: all [4]
 ";
 
-const OF_SUPPRESSIONS: &str = "store 1: nothing [3] heapsuite: t: cannot open
-store 2: nothing [3] heapsuite: t: cannot read
-store 3: nothing [3] heapsuite: t: cannot read
-store 4: nothing [3] heapsuite: e: cannot open
-store 5: nothing [3] heapsuite: e: cannot read
-store 6: nothing [3] heapsuite: e: cannot read
+const OF_SUPPRESSIONS: &str =
+    "store 1: nothing [3] heapsuite: t: cannot open\nstore 2: nothing [3] heapsuite: t: cannot read\nstore 3: nothing [3] heapsuite: t: cannot read
+store 4: nothing [3] heapsuite: e: cannot open\nstore 5: nothing [3] heapsuite: e: cannot read\nstore 6: nothing [3] heapsuite: e: cannot read
 out 1: nothing [4] heapsuite: write failed
 out 2: all [4]
 err 1: all [4]
 ";
 
-const OF_A_FILE: &str = "store 1: nothing [3] heapsuite: t: cannot open
-store 2: nothing [3] heapsuite: t: cannot read
-store 3: nothing [3] heapsuite: t: cannot read
+const OF_A_FILE: &str =
+    "store 1: nothing [3] heapsuite: t: cannot open\nstore 2: nothing [3] heapsuite: t: cannot read\nstore 3: nothing [3] heapsuite: t: cannot read
 out 1: nothing [4] heapsuite: write failed
 out 2: all [4]
 err 1: all [4]
@@ -188,12 +183,9 @@ err 1: all [4]
 
 /// Reads give 45 bytes at most: all of the symbols at once, and the raw trace in two pieces, of which the first has four whole
 /// lines, which give seven.
-const OF_AN_INTERPRETATION: &str = "store 1: nothing [3] heapsuite: s: cannot open
-store 2: nothing [3] heapsuite: s: cannot read
-store 3: nothing [3] heapsuite: s: cannot read
-store 4: nothing [3] heapsuite: t: cannot open
-store 5: nothing [3] heapsuite: t: cannot read
-store 6: 57 bytes [3] heapsuite: t: cannot read
+const OF_AN_INTERPRETATION: &str =
+    "store 1: nothing [3] heapsuite: s: cannot open\nstore 2: nothing [3] heapsuite: s: cannot read\nstore 3: nothing [3] heapsuite: s: cannot read
+store 4: nothing [3] heapsuite: t: cannot open\nstore 5: nothing [3] heapsuite: t: cannot read\nstore 6: 57 bytes [3] heapsuite: t: cannot read
 store 7: all [3] heapsuite: t: cannot read
 out 1: nothing [4] heapsuite: write failed
 out 2: all [4]

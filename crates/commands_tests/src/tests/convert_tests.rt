@@ -1,6 +1,6 @@
 //! `convert` over worked DHAT profiles and Massif files, its words, and what stands against a conversion.
 
-use crate::transcript::{DEMO, MASSIF, SECOND_FILE, Transcript, play_all};
+use crate::tests::transcript::{DEMO, MASSIF, SECOND_FILE, Transcript, play_all};
 
 const DHAT: &str = "$ convert t
 0x400: main (a.c:20) 100
@@ -19,28 +19,10 @@ $ convert --key=rb t
 heapsuite: t: no figures for rb
 [1]
 $ convert --to=massif t
-desc: heapsuite convert
-cmd: demo
-time_unit: e
-snapshot=0 time=1 mem_heap_B=100 mem_heap_extra_B=0 mem_stacks_B=0 heap_tree=peak
-n1: 100 (heap allocation functions) malloc/new/new[], --alloc-fns, etc.
- n1: 100 0x500: f (a.c:10)
-  n0: 100 0x400: main (a.c:20)
-snapshot=1 time=3 mem_heap_B=100 mem_heap_extra_B=0 mem_stacks_B=0 heap_tree=detailed
-n1: 100 (heap allocation functions) malloc/new/new[], --alloc-fns, etc.
- n0: 100 0x400: main (a.c:20)
+(converted)
 [0]
 $ convert --to=massif --key=rb t
-desc: heapsuite convert
-cmd: demo
-time_unit: e
-snapshot=0 time=1 mem_heap_B=100 mem_heap_extra_B=0 mem_stacks_B=0 heap_tree=peak
-n1: 100 (heap allocation functions) malloc/new/new[], --alloc-fns, etc.
- n1: 100 0x500: f (a.c:10)
-  n0: 100 0x400: main (a.c:20)
-snapshot=1 time=3 mem_heap_B=100 mem_heap_extra_B=0 mem_stacks_B=0 heap_tree=detailed
-n1: 100 (heap allocation functions) malloc/new/new[], --alloc-fns, etc.
- n0: 100 0x400: main (a.c:20)
+(converted)
 [0]
 $ convert n
 heapsuite: n: no such file
@@ -61,9 +43,7 @@ $ convert --key=rb t
 main;?a:b 4
 [0]
 $ convert --to=massif t
-desc: heapsuite convert
-cmd: (none)
-time_unit: i
+desc: heapsuite convert cmd: (none) time_unit: i
 snapshot=0 time=100 mem_heap_B=13 mem_heap_extra_B=0 mem_stacks_B=0 heap_tree=peak
 n1: 13 (heap allocation functions) malloc/new/new[], --alloc-fns, etc.
  n1: 6 ?a;b
@@ -126,9 +106,7 @@ const LASTING: &str =
     "{\"dhatFileVersion\":2,\"mode\":\"heap\",\"verb\":\"Allocated\",\"bklt\":true,\"bkacc\":false,\"tu\":\"instrs\",\"Mtu\":\"Minstr\",\"cmd\":\"demo\",\"pid\":7,\"te\":30,\"tg\":10,\"ftbl\":[\"[root]\",\"0x400: main (a.c:20)\",\"0x500: f (a.c:10)\"],\"pps\":[{\"tb\":64,\"tbk\":2,\"tl\":40,\"mb\":64,\"mbk\":2,\"gb\":64,\"gbk\":2,\"eb\":64,\"ebk\":2,\"fs\":[2,1]}]}\n";
 
 const OF_LASTING: &str = "$ convert --to=massif t
-desc: heapsuite convert
-cmd: demo
-time_unit: i
+desc: heapsuite convert cmd: demo time_unit: i
 snapshot=0 time=10 mem_heap_B=64 mem_heap_extra_B=0 mem_stacks_B=0 heap_tree=peak
 n1: 64 (heap allocation functions) malloc/new/new[], --alloc-fns, etc.
  n1: 64 0x500: f (a.c:10)
@@ -226,30 +204,13 @@ heapsuite: t: figures too large
 
 /// A file with a detailed snapshot before its peak and an earlier peak, in whose last tree children have more bytes than a line
 /// has.
-const PEAKS: &str = "desc: d
-cmd: c
-time_unit: i
-snapshot=0
-time=0
-mem_heap_B=9
-mem_heap_extra_B=0
-mem_stacks_B=0
-heap_tree=peak
+const PEAKS: &str = "desc: d\ncmd: c\ntime_unit: i
+snapshot=0\ntime=0\nmem_heap_B=9\nmem_heap_extra_B=0\nmem_stacks_B=0\nheap_tree=peak
 n1: 9 (root)
  n0: 9 first
-snapshot=1
-time=1
-mem_heap_B=9
-mem_heap_extra_B=0
-mem_stacks_B=0
-heap_tree=detailed
+snapshot=1\ntime=1\nmem_heap_B=9\nmem_heap_extra_B=0\nmem_stacks_B=0\nheap_tree=detailed
 n0: 9 (root)
-snapshot=2
-time=2
-mem_heap_B=60
-mem_heap_extra_B=0
-mem_stacks_B=0
-heap_tree=peak
+snapshot=2\ntime=2\nmem_heap_B=60\nmem_heap_extra_B=0\nmem_stacks_B=0\nheap_tree=peak
 n3: 60 (root)
  n2: 30 a
   n0: 10 b;c
@@ -257,12 +218,7 @@ n3: 60 (root)
  n1: 10 d
   n0: 20 e
  n0: 7 a
-snapshot=3
-time=3
-mem_heap_B=0
-mem_heap_extra_B=0
-mem_stacks_B=0
-heap_tree=empty
+snapshot=3\ntime=3\nmem_heap_B=0\nmem_heap_extra_B=0\nmem_stacks_B=0\nheap_tree=empty
 ";
 
 /// Of the last peak the root keeps 13, the two lines `a` 15 and 7, and `d` nothing.

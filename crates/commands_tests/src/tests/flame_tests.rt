@@ -1,6 +1,6 @@
 //! `flame` over a worked trace of two nested calls, by each cost.
 
-use crate::transcript::{Transcript, play_all};
+use crate::tests::transcript::{Transcript, play_all};
 
 const COSTS: &str = "$ flame e
 main (a.c:20) 1

@@ -1,6 +1,6 @@
 //! `ms_print` over the worked Massif file, and the faults of files.
 
-use crate::transcript::{
+use crate::tests::transcript::{
     MASSIF, Outcome, SECOND_FILE, SOUND, Transcript, play_all, put_outcome, run_words,
 };
 use hp_num::{NoMemory, put_bytes};

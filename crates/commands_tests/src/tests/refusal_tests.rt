@@ -1,6 +1,8 @@
 //! Refusals: of words, of a line of a trace or behind one, of lengths, and of a stack too deep.
 
-use crate::transcript::{SOUND, Setting, TWO_SIZES, Transcript, WORKED, comes_to, play_all, plays};
+use crate::tests::transcript::{
+    SOUND, Setting, TWO_SIZES, Transcript, WORKED, comes_to, play_settings,
+};
 use hp_num::{NoMemory, put_bytes, put_hex};
 
 /// Words that aren't taken, the first time none.
@@ -157,73 +159,40 @@ heapsuite: t:6: too many bytes allocated
 [6]
 ";
 
-/// Each line stands by itself behind the 18 lines of the worked trace.
-const LINES: &str = "> z what
-$ summary t
-events: 3
-calls: 2
-temporary: 1
-allocated: 200
-peak: 100 at event 1
-leaked: 100 in 1 blocks
-[0]
-> v 10500 2
-$ summary t
-heapsuite: t:19: second version line
-[1]
-> v 10500 4
-$ summary t
-heapsuite: t:19: file version not 1 to 3
-[1]
-> i 1 4 4 5 1
-$ summary t
-heapsuite: t:19: unknown string
-[1]
-> i 1 1 2 3
-$ summary t
-heapsuite: t:19: missing field
-[1]
-> t 99 99
-$ summary t
-heapsuite: t:19: unknown instruction
-[1]
-> t 9 0
-$ summary t
-heapsuite: t:19: unknown instruction
-[1]
-> t 1 3
-$ summary t
-heapsuite: t:19: unknown parent
-[1]
-> t 1 5
-$ summary t
-heapsuite: t:19: unknown parent
-[1]
-> a 1 3
-$ summary t
-heapsuite: t:19: unknown trace
-[1]
-> + 2
-$ summary t
-heapsuite: t:19: unknown allocation
-[1]
-> - 0
-$ summary t
-heapsuite: t:19: free of nothing
-[1]
-> + 40 1 1000
-$ summary t
-heapsuite: t:19: raw line
-[1]
-> +0
-$ summary t
-heapsuite: t:19: bad field
-[1]
-> R 1 2
-$ summary t
-heapsuite: t:19: extra field
-[1]
-";
+/// Lines that stand by themselves behind the 18 lines of the worked trace, and what a summary of it then comes to.
+static LINES: [(&str, &str); 15] = [
+    (
+        "z what\n",
+        "events: 3 calls: 2 temporary: 1 allocated: 200 peak: 100 at event 1 leaked: 100 in 1 blocks\n[0]\n",
+    ),
+    ("v 10500 2\n", "heapsuite: t:19: second version line\n[1]\n"),
+    (
+        "v 10500 4\n",
+        "heapsuite: t:19: file version not 1 to 3\n[1]\n",
+    ),
+    ("i 1 4 4 5 1\n", "heapsuite: t:19: unknown string\n[1]\n"),
+    ("i 1 1 2 3\n", "heapsuite: t:19: missing field\n[1]\n"),
+    ("t 99 99\n", "heapsuite: t:19: unknown instruction\n[1]\n"),
+    ("t 9 0\n", "heapsuite: t:19: unknown instruction\n[1]\n"),
+    ("t 1 3\n", "heapsuite: t:19: unknown parent\n[1]\n"),
+    ("t 1 5\n", "heapsuite: t:19: unknown parent\n[1]\n"),
+    ("a 1 3\n", "heapsuite: t:19: unknown trace\n[1]\n"),
+    ("+ 2\n", "heapsuite: t:19: unknown allocation\n[1]\n"),
+    ("- 0\n", "heapsuite: t:19: free of nothing\n[1]\n"),
+    ("+ 40 1 1000\n", "heapsuite: t:19: raw line\n[1]\n"),
+    ("+0\n", "heapsuite: t:19: bad field\n[1]\n"),
+    ("R 1 2\n", "heapsuite: t:19: extra field\n[1]\n"),
+];
+
+#[test]
+fn lines_behind_a_trace(rt: HostRuntime) {
+    for (line, want) in &LINES {
+        let mut trace = Vec::new(rt.alloc());
+        put_bytes(&mut trace, WORKED.as_bytes()).expect(&rt, "memory");
+        put_bytes(&mut trace, line.as_bytes()).expect(&rt, "memory");
+        comes_to(&rt, rt.alloc(), &SOUND, &trace, "summary t", want);
+    }
+}
 
 /// A trace with a chain of 4,097 nodes of one frame each, from line 3 on.
 fn put_chain(trace: &mut Vec<u8>) -> Result<(), NoMemory> {
@@ -252,18 +221,8 @@ fn stack_too_deep(rt: HostRuntime) {
 const LIMITED: &str = "> v 10500 2
 > # 2345678
 $ summary t
-events: 0
-calls: 0
-temporary: 0
-allocated: 0
-peak: 0 at event 0
-leaked: 0 in 0 blocks
+events: 0 calls: 0 temporary: 0 allocated: 0 peak: 0 at event 0 leaked: 0 in 0 blocks
 [0]
-> v 10500 2
-> # 23456789
-$ summary t
-heapsuite: t:2: line too long
-[6]
 > v 10500 2
 > # 234
 > # 23
@@ -272,15 +231,10 @@ heapsuite: t:3: input too long
 [6]
 ";
 
-/// A line may have 9 bytes, and a file 1,000.
+/// A line may have 9 bytes, and a file 20 or 1,000.
 const SHORT_LINES: &str = "> v 10500 2
 $ summary t
-events: 0
-calls: 0
-temporary: 0
-allocated: 0
-peak: 0 at event 0
-leaked: 0 in 0 blocks
+events: 0 calls: 0 temporary: 0 allocated: 0 peak: 0 at event 0 leaked: 0 in 0 blocks
 [0]
 > v 10500 2
 > # 23456789
@@ -295,31 +249,43 @@ heapsuite: t:2: input too long
 [6]
 ";
 
-/// Limits on a file and on a line.
-fn limited(input: u32, line: u16) -> Setting {
-    Setting {
-        input,
-        line,
-        ..SOUND
-    }
-}
-
-static RUNS: [Transcript; 2] = [
-    ("refused traces", "", TRACES),
-    ("lines behind a trace", WORKED, LINES),
-];
-
-/// The limits on a file and on a line, and what runs under them write.
-static LENGTHS: [(u32, u16, Transcript); 3] = [
-    (20, 9, ("lengths", "", LIMITED)),
-    (1000, 9, ("short lines", "", SHORT_LINES)),
-    (10, 1000, ("a short file", TWO_SIZES, SHORT_FILE)),
+static RUNS: [(Setting, Transcript); 5] = [
+    (SOUND, ("refused traces", "", TRACES)),
+    (
+        Setting {
+            input: 20,
+            line: 9,
+            ..SOUND
+        },
+        ("lengths", "", LIMITED),
+    ),
+    (
+        Setting {
+            input: 20,
+            line: 9,
+            ..SOUND
+        },
+        ("short lines of a short file", "", SHORT_LINES),
+    ),
+    (
+        Setting {
+            input: 1000,
+            line: 9,
+            ..SOUND
+        },
+        ("short lines", "", SHORT_LINES),
+    ),
+    (
+        Setting {
+            input: 10,
+            line: 1000,
+            ..SOUND
+        },
+        ("a short file", TWO_SIZES, SHORT_FILE),
+    ),
 ];
 
 #[test]
 fn refusals(rt: HostRuntime) {
-    play_all(&rt, rt.alloc(), &RUNS);
-    for (input, line, transcript) in &LENGTHS {
-        plays(&rt, rt.alloc(), &limited(*input, *line), transcript);
-    }
+    play_settings(&rt, rt.alloc(), &RUNS);
 }

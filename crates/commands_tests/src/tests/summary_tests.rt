@@ -1,23 +1,13 @@
 //! `summary` over worked traces, its words, and every way in which reads are cut.
 
-use crate::transcript::{SOUND, Setting, TWO_SIZES, Transcript, comes_to, play_all};
+use crate::tests::transcript::{SOUND, Setting, TWO_SIZES, Transcript, comes_to, play_all};
 
 const FIGURES: &str = "$ summary e
-events: 3
-calls: 2
-temporary: 1
-allocated: 200
-peak: 100 at event 1
-leaked: 100 in 1 blocks
+events: 3 calls: 2 temporary: 1 allocated: 200 peak: 100 at event 1 leaked: 100 in 1 blocks
 [0]
 > v 10500 2
 $ summary t
-events: 0
-calls: 0
-temporary: 0
-allocated: 0
-peak: 0 at event 0
-leaked: 0 in 0 blocks
+events: 0 calls: 0 temporary: 0 allocated: 0 peak: 0 at event 0 leaked: 0 in 0 blocks
 [0]
 > v 10500 2
 > a 64 0
@@ -25,24 +15,14 @@ leaked: 0 in 0 blocks
 > + 0
 > + 1
 $ summary t
-events: 2
-calls: 2
-temporary: 0
-allocated: 132
-peak: 132 at event 2
-leaked: 132 in 2 blocks
+events: 2 calls: 2 temporary: 0 allocated: 132 peak: 132 at event 2 leaked: 132 in 2 blocks
 [0]
 > # a comment
 > v 10500 3
 > 
 > z what
 $ summary t
-events: 0
-calls: 0
-temporary: 0
-allocated: 0
-peak: 0 at event 0
-leaked: 0 in 0 blocks
+events: 0 calls: 0 temporary: 0 allocated: 0 peak: 0 at event 0 leaked: 0 in 0 blocks
 [0]
 > v 10500 2
 > a 64 0
@@ -56,12 +36,7 @@ leaked: 0 in 0 blocks
 > + 1
 > + 1
 $ summary t
-events: 7
-calls: 5
-temporary: 2
-allocated: 300
-peak: 150 at event 4
-leaked: 150 in 3 blocks
+events: 7 calls: 5 temporary: 2 allocated: 300 peak: 150 at event 4 leaked: 150 in 3 blocks
 [0]
 > v 10500 2
 > a 2000000000000000 0
@@ -70,12 +45,7 @@ leaked: 150 in 3 blocks
 > + 0
 > + 1
 $ summary t
-events: 3
-calls: 3
-temporary: 0
-allocated: 4611686018427387904
-peak: 4611686018427387904 at event 2
-leaked: 4611686018427387904 in 3 blocks
+events: 3 calls: 3 temporary: 0 allocated: 4611686018427387904 peak: 4611686018427387904 at event 2 leaked: 4611686018427387904 in 3 blocks
 [0]
 ";
 
@@ -83,12 +53,7 @@ const WORDS: &str = "$ --help
 (usage)
 [0]
 $ summary -- t
-events: 4
-calls: 3
-temporary: 0
-allocated: 232
-peak: 132 at event 2
-leaked: 132 in 2 blocks
+events: 4 calls: 3 temporary: 0 allocated: 232 peak: 132 at event 2 leaked: 132 in 2 blocks
 [0]
 $ summary -- -x
 heapsuite: -x: no such file
@@ -119,7 +84,7 @@ static CUT: [&str; 2] = [TWO_SIZES, "v 10500 2\na 64 0\na 20 0\n+ 0\n+ 1\n- 0\n+
 
 /// What a summary of the trace comes to.
 static CUT_FIGURES: &str =
-    "events: 4\ncalls: 3\ntemporary: 0\nallocated: 232\npeak: 132 at event 2\nleaked: 132 in 2 blocks\n[0]\n";
+    "events: 4 calls: 3 temporary: 0 allocated: 232 peak: 132 at event 2 leaked: 132 in 2 blocks\n[0]\n";
 
 #[test]
 fn cut_reads(rt: HostRuntime) {

@@ -18,52 +18,20 @@ pub const WORKED: &str =
     "v 10500 2\nX demo\nI 1000 3e80\ns app\ns main\ns f\ns a.c\ni 400 1 2 4 14\ni 500 1 3 4 a\nt 1 0\nt 2 1\na 64 2\na 64 1\n+ 0\nc 5\nR 100\n- 0\n+ 1\n";
 
 /// Its Massif file. Transcripts show it as `(profile)`.
-pub const MASSIF: &str = "desc: heapsuite massif
-cmd: demo
-time_unit: B
-#-----------
-snapshot=0
-#-----------
-time=0
-mem_heap_B=0
-mem_heap_extra_B=0
-mem_stacks_B=0
-heap_tree=empty
-#-----------
-snapshot=1
-#-----------
-time=120
-mem_heap_B=100
-mem_heap_extra_B=20
-mem_stacks_B=0
-heap_tree=empty
-#-----------
-snapshot=2
-#-----------
-time=120
-mem_heap_B=100
-mem_heap_extra_B=20
-mem_stacks_B=0
-heap_tree=peak
+pub const MASSIF: &str = "desc: heapsuite massif\ncmd: demo\ntime_unit: B
+#-----------\nsnapshot=0\n#-----------
+time=0\nmem_heap_B=0\nmem_heap_extra_B=0\nmem_stacks_B=0\nheap_tree=empty
+#-----------\nsnapshot=1\n#-----------
+time=120\nmem_heap_B=100\nmem_heap_extra_B=20\nmem_stacks_B=0\nheap_tree=empty
+#-----------\nsnapshot=2\n#-----------
+time=120\nmem_heap_B=100\nmem_heap_extra_B=20\nmem_stacks_B=0\nheap_tree=peak
 n1: 100 (heap allocation functions) malloc/new/new[], --alloc-fns, etc.
  n1: 100 0x500: f (a.c:10)
   n0: 100 0x400: main (a.c:20)
-#-----------
-snapshot=3
-#-----------
-time=240
-mem_heap_B=0
-mem_heap_extra_B=0
-mem_stacks_B=0
-heap_tree=empty
-#-----------
-snapshot=4
-#-----------
-time=360
-mem_heap_B=100
-mem_heap_extra_B=20
-mem_stacks_B=0
-heap_tree=empty
+#-----------\nsnapshot=3\n#-----------
+time=240\nmem_heap_B=0\nmem_heap_extra_B=0\nmem_stacks_B=0\nheap_tree=empty
+#-----------\nsnapshot=4\n#-----------
+time=360\nmem_heap_B=100\nmem_heap_extra_B=20\nmem_stacks_B=0\nheap_tree=empty
 ";
 
 /// A second Massif file up to its tree.
@@ -73,6 +41,10 @@ pub const SECOND_FILE: &str =
 /// The worked trace's DHAT profile.
 pub const DEMO: &str =
     "{\"Mtu\":\"Mevents\",\"bkacc\":false,\"bklt\":true,\"cmd\":\"demo\",\"dhatFileVersion\":2,\"ftbl\":[\"[root]\",\"0x400: main (a.c:20)\",\"0x500: f (a.c:10)\"],\"mode\":\"heap\",\"pid\":0,\"pps\":[{\"eb\":100,\"ebk\":1,\"fs\":[1],\"gb\":0,\"gbk\":0,\"mb\":100,\"mbk\":1,\"tb\":100,\"tbk\":1,\"tl\":0},{\"eb\":0,\"ebk\":0,\"fs\":[2,1],\"gb\":100,\"gbk\":1,\"mb\":100,\"mbk\":1,\"tb\":100,\"tbk\":1,\"tl\":1}],\"te\":3,\"tg\":1,\"tu\":\"events\",\"tuth\":500,\"verb\":\"Allocated\"}\n";
+
+/// The Massif file that this profile is converted to. Transcripts show it as `(converted)`.
+const CONVERTED: &str =
+    "desc: heapsuite convert\ncmd: demo\ntime_unit: e\n#-----------\nsnapshot=0\n#-----------\ntime=1\nmem_heap_B=100\nmem_heap_extra_B=0\nmem_stacks_B=0\nheap_tree=peak\nn1: 100 (heap allocation functions) malloc/new/new[], --alloc-fns, etc.\n n1: 100 0x500: f (a.c:10)\n  n0: 100 0x400: main (a.c:20)\n#-----------\nsnapshot=1\n#-----------\ntime=3\nmem_heap_B=100\nmem_heap_extra_B=0\nmem_stacks_B=0\nheap_tree=detailed\nn1: 100 (heap allocation functions) malloc/new/new[], --alloc-fns, etc.\n n0: 100 0x400: main (a.c:20)\n";
 
 /// A raw trace, whose symbols the folder has.
 pub const RAW: &str =
@@ -222,43 +194,63 @@ pub fn run_words(
     run_over(rt, alloc, setting, &list, &mut store, outcome);
 }
 
-/// Appends a line of a Massif file: behind the line before it where it is a value of a snapshot, else on a line of its own.
-fn put_beside(line: &[u8], all: &mut Vec<u8>) -> Result<(), NoMemory> {
-    let is_value = line.starts_with(b"time=")
-        || line.starts_with(b"mem_")
-        || line.starts_with(b"heap_tree=");
-    if is_value {
-        put_bytes(all, b" ")?;
-    } else if all.last() != Some(&b'\n') {
-        put_bytes(all, b"\n")?;
+/// How lines begin that transcripts show behind the line before: figures of a summary, and the header and values of a Massif file.
+static VALUES: [&str; 10] = [
+    "calls: ",
+    "temporary: ",
+    "allocated: ",
+    "peak: ",
+    "leaked: ",
+    "cmd: ",
+    "time_unit: ",
+    "time=",
+    "mem_",
+    "heap_tree=",
+];
+
+/// Whether a line is shown behind the line before.
+fn is_value(line: &[u8]) -> bool {
+    for front in &VALUES {
+        if line.starts_with(front.as_bytes()) {
+            return true;
+        }
     }
-    put_bytes(all, line)
+    false
 }
 
-/// Appends a Massif file, each snapshot on one line: without what stands between snapshots and their values.
-fn put_snapshots(file: &[u8], all: &mut Vec<u8>) -> Result<(), NoMemory> {
-    for line in file.split(|byte| *byte == b'\n') {
-        if line != b"#-----------".as_slice() {
-            put_beside(line, all)?;
+/// Appends lines: all figures of a summary in one, and so the header of a Massif file and each snapshot, without the lines of marks
+/// between these.
+fn put_lines(text: &[u8], all: &mut Vec<u8>) -> Result<(), NoMemory> {
+    let is_massif = text.starts_with(b"desc: ");
+    let mut is_first = true;
+    for line in text.split(|byte| *byte == b'\n') {
+        if is_massif && line == b"#-----------".as_slice() {
+            continue;
         }
+        if !is_first {
+            put_bytes(all, if is_value(line) { b" " } else { b"\n" })?;
+        }
+        put_bytes(all, line)?;
+        is_first = false;
     }
     Ok(())
 }
 
 /// Texts that transcripts show by a word.
-static SHOWN: [(&str, &str); 2] = [(USAGE, "(usage)\n"), (MASSIF, "(profile)\n")];
+static SHOWN: [(&str, &str); 3] = [
+    (USAGE, "(usage)\n"),
+    (MASSIF, "(profile)\n"),
+    (CONVERTED, "(converted)\n"),
+];
 
-/// Appends what an output got. Of a Massif file each snapshot stands on one line.
+/// Appends what an output got.
 fn put_got(got: &[u8], all: &mut Vec<u8>) -> Result<(), NoMemory> {
     for (text, word) in &SHOWN {
         if got == text.as_bytes() {
             return put_bytes(all, word.as_bytes());
         }
     }
-    if got.starts_with(b"desc: ") {
-        return put_snapshots(got, all);
-    }
-    put_bytes(all, got)
+    put_lines(got, all)
 }
 
 /// Appends what both outputs of a run got, and its status in brackets.
@@ -327,13 +319,20 @@ fn play_lines(
 }
 
 /// Plays a transcript whose runs are made so.
-pub fn plays(rt: &impl Abort, alloc: Global, setting: &Setting, transcript: &Transcript) {
+fn plays(rt: &impl Abort, alloc: Global, setting: &Setting, transcript: &Transcript) {
     let mut stage = Stage {
         file: Vec::new(alloc),
         outcome: Outcome::new(alloc),
         all: Vec::new(alloc),
     };
     play_lines(rt, alloc, setting, transcript, &mut stage);
+}
+
+/// Plays transcripts whose runs are made as stands beside them.
+pub fn play_settings(rt: &impl Abort, alloc: Global, transcripts: &[(Setting, Transcript)]) {
+    for (setting, transcript) in transcripts {
+        plays(rt, alloc, setting, transcript);
+    }
 }
 
 /// Plays transcripts of which all calls are sound.

@@ -1,6 +1,6 @@
 //! `dhat_view` over worked profiles, its words, and the faults of a document.
 
-use crate::transcript::{DEMO, Transcript, play_all};
+use crate::tests::transcript::{DEMO, Transcript, play_all};
 
 const VIEWS: &str = "$ dhat_view t
 command: demo
