@@ -10,36 +10,9 @@
 //! | `thread_run_tests` | runs of two to eight scripts by threads: that these go on beside each other, in numbered holds |
 //! | `failure_tests`, `failing_calls` | each call of a run that can fail, failed once |
 //! | `recorded_tests`, `both_runs` | what one program records, the other reads |
+//! | `checked` | the traces that both kinds of checks read |
 //! | `gates`, `runs`, `script_text`, `transcripts` | what the others share |
 #![tactic(auto)]
 
 #[cfg(test)]
-mod book_tests;
-#[cfg(test)]
-mod both_runs;
-#[cfg(test)]
-mod check_tests;
-#[cfg(test)]
-mod failing_calls;
-#[cfg(test)]
-mod failure_tests;
-#[cfg(test)]
-mod gates;
-#[cfg(test)]
-mod order_tests;
-#[cfg(test)]
-mod recorded_tests;
-#[cfg(test)]
-mod run_tests;
-#[cfg(test)]
-mod runs;
-#[cfg(test)]
-mod script_tests;
-#[cfg(test)]
-mod script_text;
-#[cfg(test)]
-mod thread_run_tests;
-#[cfg(test)]
-mod transcripts;
-#[cfg(test)]
-mod worker_tests;
+mod tests;

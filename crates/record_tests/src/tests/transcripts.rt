@@ -1,8 +1,8 @@
 //! Transcripts: runs, and what came of them, as one text.
 
-use crate::failing_calls::put_all_failures;
-use crate::gates::Watch;
-use crate::runs::{Run, append_run, sound};
+use crate::tests::failing_calls::put_all_failures;
+use crate::tests::gates::Watch;
+use crate::tests::runs::{Run, append_run, sound};
 use hp_num::{NoMemory, put_bytes};
 use std::alloc::Global;
 use std::process::Abort;
@@ -11,7 +11,7 @@ use std::thread::Threads;
 
 /// Runs, and how many events all scripts of one may have. A line behind `> ` is one more of the file `s`, up to the next run, and
 /// one behind `>. ` has no line feed; the words behind `$ ` are run; those behind `! ` are run once for each call that can fail, which
-/// fails then; all other lines are what came of it.
+/// fails then; all other lines are what came of it, the usage text as `(usage)`.
 pub struct Transcript {
     pub most_events: u16,
     pub text: &'static str,

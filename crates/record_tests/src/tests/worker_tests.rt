@@ -1,8 +1,8 @@
 //! What no clause says: that there is a worker for each script, that the workers are beside each other and have all ended when
 //! the call returns, and that they take all turns and leave none to what comes behind them.
 
-use crate::gates::{NOBODY, Watch};
-use crate::script_text::{put_hundreds, scripts_of};
+use crate::tests::gates::{NOBODY, Watch};
+use crate::tests::script_text::{put_hundreds, scripts_of};
 use record_book::Book;
 use recorder::{Recorder, run_workers};
 use std::alloc::Global;

@@ -2,7 +2,7 @@
 ghost use Rattle.std.specs.Prelude.{◌≡◌, ℕ, List, OnOk, None};
 ghost use Rattle.hp_outside.specs.Folder.{file_of};
 
-use crate::gates::Watch;
+use crate::tests::gates::Watch;
 use heaprec_commands::heaprec_run;
 use hp_num::{NoMemory, put_bytes, put_dec};
 use hp_outside::{Limits, MemSink, MemStore};
@@ -10,6 +10,9 @@ use std::alloc::Global;
 use std::process::Abort;
 use std::sync::Wait;
 use std::thread::Threads;
+
+/// How the program is called. Transcripts show it as `(usage)`.
+const USAGE: &str = "usage: heaprec [--modules=FILE] [--summary] [--check=TRACE] SCRIPT...\n";
 
 /// A modules file.
 const MODULES: &str = "# modules\nm app  01000 0 1F00\nm -\n";
@@ -120,10 +123,18 @@ fn status_of<R: Threads + Wait + Sync>(
     heaprec_run(rt, alloc, words, &limits, store, out, err, gate)
 }
 
+/// Appends what an output got. The usage text is shown by a word.
+fn put_got(got: &[u8], all: &mut Vec<u8>) -> Result<(), NoMemory> {
+    if got == USAGE.as_bytes() {
+        return put_bytes(all, b"(usage)\n");
+    }
+    put_bytes(all, got)
+}
+
 /// Appends what both outputs got and the status in brackets.
 fn put_run(ends: &Ends, status: u8, all: &mut Vec<u8>) -> Result<(), NoMemory> {
-    put_bytes(all, ends.out.bytes())?;
-    put_bytes(all, ends.err.bytes())?;
+    put_got(ends.out.bytes(), all)?;
+    put_got(ends.err.bytes(), all)?;
     put_bytes(all, b"[")?;
     put_dec(all, u64::from(status))?;
     put_bytes(all, b"]\n")

@@ -1,6 +1,6 @@
 //! A recording of one script, interpreted, and what reports say of it.
 
-use crate::both_runs::{recorded, reported};
+use crate::tests::both_runs::{recorded, reported};
 use std::process::Abort;
 use std::test::Fail;
 

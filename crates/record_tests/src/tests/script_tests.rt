@@ -1,6 +1,6 @@
 //! Scripts of other lines that say the same. Lines of scripts are tried by runs.
 
-use crate::script_text::scripts_of;
+use crate::tests::script_text::scripts_of;
 
 /// What scripts that differ come to is a clause.
 #[test]

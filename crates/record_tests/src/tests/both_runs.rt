@@ -1,8 +1,8 @@
 //! Runs of both programs' public calls over a folder in memory.
 ghost use Rattle.std.specs.Prelude.{◌≡◌, IfOk};
 
-use crate::gates::{NOBODY, Watch};
-use crate::runs::add_words;
+use crate::tests::gates::{NOBODY, Watch};
+use crate::tests::runs::add_words;
 use commands::heapsuite_run;
 use heaprec_commands::heaprec_run;
 use hp_num::{NoMemory, put_bytes};

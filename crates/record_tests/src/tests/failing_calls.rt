@@ -1,7 +1,7 @@
 //! Every call of a run that can fail, failed once: each call on the store, on standard output and on standard error.
 
-use crate::gates::{NOBODY, Watch};
-use crate::runs::{Run, Setting, append_run, sound};
+use crate::tests::gates::{NOBODY, Watch};
+use crate::tests::runs::{Run, Setting, append_run, sound};
 use hp_num::{NoMemory, put_bytes, put_dec};
 use std::alloc::Global;
 use std::process::Abort;

@@ -1,7 +1,7 @@
 //! Recordings of small scripts, as texts.
 ghost use Rattle.record_book.specs.Orders.{IsInterleaving};
 
-use crate::script_text::scripts_of;
+use crate::tests::script_text::scripts_of;
 use hp_num::{NoMemory, put_bytes, put_dec};
 use record_book::Book;
 use std::alloc::Global;
@@ -16,97 +16,54 @@ struct Recording {
     told: &'static [u8],
 }
 
+/// A block that is freed, and one of another thread.
+const TWO: &[u8] = b"a 1 40 500 400\nf 1|a 1 8 400";
+
+/// What is told where the second thread takes its turn between those of the first.
+const IN_BETWEEN: &[u8] = b"\
+v 10500 2\nX heaprec\n# thread 0\nt 400 0\nt 500 1\n+ 40 2 10000\n# thread 1\n+ 8 1 10040\n# thread 0\n- 10000
+010
+# threads: 2\n# events: 3\n# calls: 2\n# allocated: 72\n# leaked: 8 in 1 blocks\n# peak: 72 from 64 to 72
+";
+
+/// What is told where the first thread takes its turns first.
+const IN_TURN: &[u8] = b"\
+v 10500 2\nX heaprec\n# thread 0\nt 400 0\nt 500 1\n+ 40 2 10000\n- 10000\n# thread 1\n+ 8 1 10040
+001
+# threads: 2\n# events: 3\n# calls: 2\n# allocated: 72\n# leaked: 8 in 1 blocks\n# peak: 64 from 64 to 72
+";
+
 static RECORDINGS: [Recording; 9] = [
     Recording {
         scripts: b"a 1 40 500 400\nf 1\na 2 8 400",
         threads: b"",
         finished: None,
         told: b"\
-v 10500 2
-X heaprec
-# thread 0
-t 400 0
-t 500 1
-+ 40 2 10000
-- 10000
-+ 8 1 10040
+v 10500 2\nX heaprec\n# thread 0\nt 400 0\nt 500 1\n+ 40 2 10000\n- 10000\n+ 8 1 10040
 000
-# threads: 1
-# events: 3
-# calls: 2
-# allocated: 72
-# leaked: 8 in 1 blocks
-# peak: 64 from 64 to 64
+# threads: 1\n# events: 3\n# calls: 2\n# allocated: 72\n# leaked: 8 in 1 blocks\n# peak: 64 from 64 to 64
 ",
     },
     Recording {
-        scripts: b"a 1 40 500 400\nf 1|a 1 8 400",
+        scripts: TWO,
         threads: b"010",
         finished: None,
-        told: b"\
-v 10500 2
-X heaprec
-# thread 0
-t 400 0
-t 500 1
-+ 40 2 10000
-# thread 1
-+ 8 1 10040
-# thread 0
-- 10000
-010
-# threads: 2
-# events: 3
-# calls: 2
-# allocated: 72
-# leaked: 8 in 1 blocks
-# peak: 72 from 64 to 72
-",
+        told: IN_BETWEEN,
     },
     Recording {
-        scripts: b"a 1 40 500 400\nf 1|a 1 8 400",
+        scripts: TWO,
         threads: b"",
         finished: None,
-        told: b"\
-v 10500 2
-X heaprec
-# thread 0
-t 400 0
-t 500 1
-+ 40 2 10000
-- 10000
-# thread 1
-+ 8 1 10040
-001
-# threads: 2
-# events: 3
-# calls: 2
-# allocated: 72
-# leaked: 8 in 1 blocks
-# peak: 64 from 64 to 72
-",
+        told: IN_TURN,
     },
     Recording {
         scripts: b"a 1 10 1\na 2 10 1\nf 1\nf 2\na 3 10 1",
         threads: b"0000",
         finished: None,
         told: b"\
-v 10500 2
-X heaprec
-# thread 0
-t 1 0
-+ 10 1 10000
-+ 10 1 10010
-- 10000
-- 10010
-+ 10 1 10000
+v 10500 2\nX heaprec\n# thread 0\nt 1 0\n+ 10 1 10000\n+ 10 1 10010\n- 10000\n- 10010\n+ 10 1 10000
 00000
-# threads: 1
-# events: 5
-# calls: 3
-# allocated: 48
-# leaked: 16 in 1 blocks
-# peak: 32 from 32 to 32
+# threads: 1\n# events: 5\n# calls: 3\n# allocated: 48\n# leaked: 16 in 1 blocks\n# peak: 32 from 32 to 32
 ",
     },
     Recording {
@@ -114,114 +71,43 @@ t 1 0
         threads: b"00",
         finished: None,
         told: b"\
-v 10500 2
-X heaprec
-# thread 0
-t 1 0
-+ 10 1 10000
-- 10000
-+ 20 1 10010
-- 10010
-t 2 0
-+ 20 2 10010
+v 10500 2\nX heaprec\n# thread 0\nt 1 0\n+ 10 1 10000\n- 10000\n+ 20 1 10010\n- 10010\nt 2 0\n+ 20 2 10010
 00000
-# threads: 1
-# events: 5
-# calls: 3
-# allocated: 80
-# leaked: 32 in 1 blocks
-# peak: 32 from 32 to 32
+# threads: 1\n# events: 5\n# calls: 3\n# allocated: 80\n# leaked: 32 in 1 blocks\n# peak: 32 from 32 to 32
 ",
     },
     Recording {
-        scripts: b"a 1 40 500 400\nf 1|a 1 8 400",
+        scripts: TWO,
         threads: b"001",
         finished: None,
-        told: b"\
-v 10500 2
-X heaprec
-# thread 0
-t 400 0
-t 500 1
-+ 40 2 10000
-- 10000
-# thread 1
-+ 8 1 10040
-001
-# threads: 2
-# events: 3
-# calls: 2
-# allocated: 72
-# leaked: 8 in 1 blocks
-# peak: 64 from 64 to 72
-",
+        told: IN_TURN,
     },
     // The same scripts by other lines: the order stays.
     Recording {
-        scripts: b"a 1 40 500 400\nf 1|a 1 8 400",
+        scripts: TWO,
         threads: b"01",
         finished: Some(b"# one\n\na 01 040 0500 400\nf 01|a 1 8 400"),
-        told: b"\
-v 10500 2
-X heaprec
-# thread 0
-t 400 0
-t 500 1
-+ 40 2 10000
-# thread 1
-+ 8 1 10040
-# thread 0
-- 10000
-010
-# threads: 2
-# events: 3
-# calls: 2
-# allocated: 72
-# leaked: 8 in 1 blocks
-# peak: 72 from 64 to 72
-",
+        told: IN_BETWEEN,
     },
     // Other scripts are recorded from nothing on: as many, or fewer.
     Recording {
-        scripts: b"a 1 40 500 400\nf 1|a 1 8 400",
+        scripts: TWO,
         threads: b"01",
         finished: Some(b"a 1 8 400\nf 1|a 1 8 500"),
         told: b"\
-v 10500 2
-X heaprec
-# thread 0
-t 400 0
-+ 8 1 10000
-- 10000
-# thread 1
-t 500 0
-+ 8 2 10000
+v 10500 2\nX heaprec\n# thread 0\nt 400 0\n+ 8 1 10000\n- 10000\n# thread 1\nt 500 0\n+ 8 2 10000
 001
-# threads: 2
-# events: 3
-# calls: 2
-# allocated: 16
-# leaked: 8 in 1 blocks
-# peak: 8 from 8 to 16
+# threads: 2\n# events: 3\n# calls: 2\n# allocated: 16\n# leaked: 8 in 1 blocks\n# peak: 8 from 8 to 16
 ",
     },
     Recording {
-        scripts: b"a 1 40 500 400\nf 1|a 1 8 400",
+        scripts: TWO,
         threads: b"01",
         finished: Some(b"a 1 8 400"),
         told: b"\
-v 10500 2
-X heaprec
-# thread 0
-t 400 0
-+ 8 1 10000
+v 10500 2\nX heaprec\n# thread 0\nt 400 0\n+ 8 1 10000
 0
-# threads: 1
-# events: 1
-# calls: 1
-# allocated: 8
-# leaked: 8 in 1 blocks
-# peak: 8 from 8 to 8
+# threads: 1\n# events: 1\n# calls: 1\n# allocated: 8\n# leaked: 8 in 1 blocks\n# peak: 8 from 8 to 8
 ",
     },
 ];

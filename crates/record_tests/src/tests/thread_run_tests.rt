@@ -1,47 +1,23 @@
 //! Runs of several scripts by threads, whose text is one of those that the scripts allow.
 
-use crate::gates::{NOBODY, Watch};
-use crate::runs::{Run, append_run, sound};
-use crate::script_text::put_hundred;
+use crate::tests::gates::{NOBODY, Watch};
+use crate::tests::runs::{Run, append_run, sound};
+use crate::tests::script_text::put_hundred;
 use hp_num::NoMemory;
 use std::alloc::Global;
 use std::process::Abort;
 use std::sync::Wait;
 use std::thread::Threads;
 
-static FIRST_SCRIPT_FIRST: &str = "v 10500 2
-X heaprec
-# thread 0
-t 400 0
-t 500 1
-+ 40 2 10000
-- 10000
-# thread 1
-+ 8 1 10040
-# threads: 2
-# events: 3
-# calls: 2
-# allocated: 72
-# leaked: 8 in 1 blocks
-# peak: 64 from 64 to 72
+static FIRST_SCRIPT_FIRST: &str =
+    "v 10500 2\nX heaprec\n# thread 0\nt 400 0\nt 500 1\n+ 40 2 10000\n- 10000\n# thread 1\n+ 8 1 10040
+# threads: 2\n# events: 3\n# calls: 2\n# allocated: 72\n# leaked: 8 in 1 blocks\n# peak: 64 from 64 to 72
 [0]
 ";
 
-static SECOND_SCRIPT_FIRST: &str = "v 10500 2
-X heaprec
-# thread 1
-t 400 0
-+ 8 1 10000
-# thread 0
-t 500 1
-+ 40 2 10010
-- 10010
-# threads: 2
-# events: 3
-# calls: 2
-# allocated: 72
-# leaked: 8 in 1 blocks
-# peak: 72 from 64 to 72
+static SECOND_SCRIPT_FIRST: &str =
+    "v 10500 2\nX heaprec\n# thread 1\nt 400 0\n+ 8 1 10000\n# thread 0\nt 500 1\n+ 40 2 10010\n- 10010
+# threads: 2\n# events: 3\n# calls: 2\n# allocated: 72\n# leaked: 8 in 1 blocks\n# peak: 72 from 64 to 72
 [0]
 ";
 
