@@ -1,7 +1,7 @@
 -- The folder that files in memory make, and what an open of a name answers there.
-use Rattle.std.specs.Prelude.{ℕ, ◌<◌, ◌≤◌, List, [], Option, map, drop, length, slice_index_or, option_map}
+use Rattle.std.specs.Prelude.{◌≡◌, ℕ, ◌<◌, ◌≤◌, List, [], Option, None, Some, map, drop, length, slice_index_or, option_map}
 use Rattle.std.specs.FinMap.{from_entries}
-use Rattle.hp_outside.specs.Folder.{Folder}
+use Rattle.hp_outside.specs.Folder.{Folder, file_of}
 use Rattle.hp_outside.specs.declared.sure_store.HeldFile.{HeldFile}
 use Rattle.hp_outside.specs.declared.sure_store.Place.{Place}
 
@@ -24,3 +24,12 @@ left_at files place = option_map (λ here. drop here.at (bytes_at files here.fil
 -- the place stands within a held file
 abbrev pub IsWithin : List HeldFile → Place → Type 0
 IsWithin files here = (here.file < length files) × (here.at ≤ length (bytes_at files here.file))
+
+-- the file of the name has this number
+abbrev pub IsFileNumber : List HeldFile → List ℕ → ℕ → Type 0
+IsFileNumber files name number = (number < length files)
+    × (file_of (folder_of files) name ≡ Some (bytes_at files number))
+
+-- no file has the name
+abbrev pub HasNoFile : List HeldFile → List ℕ → Type 0
+HasNoFile files name = file_of (folder_of files) name ≡ None

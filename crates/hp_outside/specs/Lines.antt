@@ -1,7 +1,7 @@
 -- The lines of bytes are the pieces between line feeds; a last piece that isn't empty is a line
 -- too.
-use Rattle.std.specs.Prelude.{ℕ, List, [], ◌∷◌, Bool, ◌==◌, if◌then◌else◌}
-use Rattle.std.specs.List.{before_first, after_first}
+use Rattle.std.specs.Prelude.{◌≡◌, ◌<◌, ℕ, List, [], ◌∷◌, length, Bool, ◌==◌, if◌then◌else◌}
+use Rattle.std.specs.List.{before_first, after_first, position_or_len}
 
 -- a line feed ends a line
 abbrev pub is_line_feed : ℕ → Bool
@@ -25,3 +25,11 @@ first_line bytes = before_first is_line_feed bytes
 -- what stands behind the first line and its line feed
 abbrev pub after_line : List ℕ → List ℕ
 after_line bytes = after_first is_line_feed bytes
+
+-- no line feed stands among the bytes
+abbrev pub HasNoFeed : List ℕ → Type 0
+HasNoFeed bytes = position_or_len is_line_feed bytes ≡ length bytes
+
+-- the first line feed of the bytes stands at the place
+abbrev pub IsFirstFeed : List ℕ → ℕ → Type 0
+IsFirstFeed bytes end = (end < length bytes) × (position_or_len is_line_feed bytes ≡ end)

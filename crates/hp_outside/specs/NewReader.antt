@@ -11,3 +11,8 @@ pub record IsNewReader (reader : LineReaderState) : Type 0 where
   pub given : reader.given ≡ 0
   pub line_ended : reader.line_ended ≡ true
   pub fault : reader.fault ≡ None
+
+-- the same but for the end of a line, which no line has yet
+abbrev pub IsAtStart : LineReaderState → Type 0
+IsAtStart reader = (reader.kept ≡ []) × (reader.passed ≡ 0) × (reader.ended ≡ false)
+    × (reader.number ≡ 0) × (reader.given ≡ 0) × (reader.fault ≡ None)

@@ -2,13 +2,14 @@
 -- where it has to; what a caller that counts may rely on.
 use Rattle.std.specs.Prelude.{◌≡◌, ◌≢◌, ℕ, ◌+◌, ◌≤◌, List, [], length, Option, None, Some, Result, Err, true, false}
 use Rattle.std.specs.Prelude.{IsTrue, IfOk, IfErr, OnOk, IfSome, IfNone, is_some, if◌then◌else◌}
+use Rattle.std.specs.Io.KnownBytes.{prepend_known}
 use Rattle.hp_outside.specs.declared.span.LineFault.{LineFault}
 use Rattle.hp_outside.specs.declared.span.LineFault.TheVariants.{ReadFailed}
 use Rattle.hp_outside.specs.declared.span.Span.{Span}
 use Rattle.hp_outside.specs.declared.store.Store as store
 use Rattle.hp_outside.specs.Faults.{Faulted}
 use Rattle.hp_outside.specs.LineReaderState.{LineReaderState}
-use Rattle.hp_outside.specs.NextLine.{GivesLine, IsUndecided, NextAnswer, has_line_feed}
+use Rattle.hp_outside.specs.NextLine.{GivesLine, IsLine, IsUndecided, NextAnswer, has_line_feed}
 use Rattle.hp_outside.specs.Taken.{WhereTold}
 use Rattle.hp_outside.specs.WholeLines.{IsLineText}
 
@@ -77,3 +78,26 @@ pub record LosesNothing (old new : LineReaderState) (before now : Option (List �
   pub given : new.given ≡ old.given
   pub line_ended : new.line_ended ≡ old.line_ended
   pub rest : now ≡ before
+
+-- what is not yet given of the file
+abbrev pub rest_of : {S : Type 0} → store.Ghosts S → LineReaderState → S → Option (List ℕ)
+rest_of g reader now = prepend_known reader.kept (g.left now)
+
+-- an earlier fault is answered again, and nothing else happens
+abbrev pub RepeatsFault : {S : Type 0} → S → S → LineReaderState → LineReaderState
+    → Result (Option Span) LineFault → Type 0
+RepeatsFault before now old new result = (fault : LineFault) → old.fault ≡ Some fault
+    → (result ≡ Err fault) × (new ≡ old) × (now ≡ before)
+
+-- behind no fault the next line of the file is given, its end or a refusal
+abbrev pub GivesNextOfFile : {S : Type 0} → store.Ghosts S → S → S → LineReaderState
+    → LineReaderState → Result (Option Span) LineFault → Type 0
+GivesNextOfFile g before now old new result = old.fault ≡ None
+    → WhereTold (rest_of g old before)
+    (λ rest. GivesNext old new rest (rest_of g new now) result)
+
+-- where no line is given, nothing of the file is passed over or lost
+abbrev pub KeepsUngiven : {S : Type 0} → store.Ghosts S → S → S → LineReaderState
+    → LineReaderState → Result (Option Span) LineFault → Type 0
+KeepsUngiven g before now old new result = ¬ IsLine result
+    → LosesNothing old new (rest_of g old before) (rest_of g new now)

@@ -47,3 +47,7 @@ pub record MakesRoom {Z : Type 0} (old new : Vec ℕ Z) (start end place : ℕ) 
   pub within : place + (end - start) ≤ vec_len new
   pub capacity : vec_capacity new ≡ vec_capacity old
   pub len : vec_len new ≡ vec_len old
+
+-- all that the buffer held it holds in its place
+abbrev pub KeepsHeld : {Z : Type 0} → Vec ℕ Z → Vec ℕ Z → Type 0
+KeepsHeld old new = (count : ℕ) → count ≤ vec_len old → take count new.items ≡ take count old.items

@@ -1,7 +1,7 @@
 //! What bytes that were taken from a file tell of its next line.
 ghost use Rattle.std.specs.Prelude.{◌≡◌, ◌+◌, ◌<◌, ◌≤◌, length, MatchOption};
 ghost use Rattle.std.specs.List.{position_or_len};
-ghost use Rattle.hp_outside.specs.Lines.{is_line_feed};
+ghost use Rattle.hp_outside.specs.Lines.{HasNoFeed, IsFirstFeed, is_line_feed};
 ghost use Rattle.hp_outside.specs.Judgement.{IsJudgement};
 
 use crate::span::LineFault;
@@ -52,8 +52,7 @@ fn line_len(kept: &[u8], scanned: usize) -> usize
 
 /// The place of the first line feed.
 fn line_end(bytes: &[u8]) -> Option<usize>
-    ensures { MatchOption result (position_or_len is_line_feed bytes.now ≡ length bytes.now)
-        (λ end. (end < length bytes.now) × (position_or_len is_line_feed bytes.now ≡ end)) }
+    ensures { MatchOption result (HasNoFeed bytes.now) (IsFirstFeed bytes.now) }
 {
     memchr(b'\n', bytes)
 }

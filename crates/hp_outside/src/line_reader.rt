@@ -4,9 +4,11 @@ ghost use Rattle.std.specs.Prelude.{◌≡◌, ◌≢◌, ◌+◌, ◌-◌, ◌<
 ghost use Rattle.std.specs.Io.KnownBytes.{prepend_known};
 ghost use Rattle.hp_outside.specs.Faults.{Faulted};
 ghost use Rattle.hp_outside.specs.Taken.{WhereTold};
-ghost use Rattle.hp_outside.specs.LineReaderState.{LineReaderState};
+ghost use Rattle.hp_outside.specs.LineReaderState.{IsReadyCount, LineReaderState, at_start};
 ghost use Rattle.hp_outside.specs.Lines.{lines_of};
-ghost use Rattle.hp_outside.specs.NextCall.{CountsNext, GivesNext, HasFile, LosesNothing, OnlyReads};
+ghost use Rattle.hp_outside.specs.NewReader.{IsAtStart};
+ghost use Rattle.hp_outside.specs.NextCall.{CountsNext, HasFile, OnlyReads};
+ghost use Rattle.hp_outside.specs.NextCall.{GivesNextOfFile, KeepsUngiven, RepeatsFault};
 ghost use Rattle.hp_outside.specs.ReaderCalls.{Gives, GivesLast, MayGive, MayTakeMore, Passes, StandsAt, TakesMore};
 ghost use Rattle.hp_outside.specs.StoreCalls.{ReadsOn};
 ghost use Rattle.hp_outside.specs.NextLine.{IsLine};
@@ -74,8 +76,7 @@ impl LineReader {
         ensures input { IfOk result (λ reader. reader.input ≡ limits.now.input) }
         ensures line { IfOk result (λ reader. reader.line_limit ≡ limits.now.line) }
         ensures new { IfOk result
-            (λ reader. (reader.kept ≡ []) × (reader.passed ≡ 0) × (reader.ended ≡ false)
-            × (reader.number ≡ 0) × (reader.given ≡ 0) × (reader.fault ≡ None)) }
+            (λ reader. IsAtStart reader) }
         ensures line_ended { IfOk result (λ reader. reader.line_ended ≡ true) }
     {
         let window = Window::new(alloc, limits.line as usize)?;
@@ -94,15 +95,7 @@ impl LineReader {
     /// forgets an earlier fault. Bytes that were taken and not given are dropped, and the count of
     /// lines begins again at 0.
     pub fn start(&mut self)
-        ensures { self.new ≡ record self.old {
-          passed = 0;
-          kept = [];
-          ended = false;
-          number = 0;
-          given = 0;
-          line_ended = true;
-          fault = None;
-        } }
+        ensures { self.new ≡ at_start self.old }
     {
         self.window.clear();
         self.passed = 0;
@@ -140,17 +133,11 @@ impl LineReader {
     /// taken.
     pub fn next<S: Store>(&mut self, store: &mut S) -> Result<Option<Span>, LineFault>
         requires { HasFile S.Store self.old store.old }
-        ensures again { (fault : LineFault) → self.old.fault ≡ Some fault
-            → (result ≡ Err fault) × (self.new ≡ self.old) × (store.new ≡ store.old) }
-        ensures next { self.old.fault ≡ None
-            → WhereTold (prepend_known self.old.kept (S.left store.old))
-            (λ rest. GivesNext self.old self.new rest
-            (prepend_known self.new.kept (S.left store.new)) result) }
+        ensures again { RepeatsFault store.old store.new self.old self.new result }
+        ensures next { GivesNextOfFile S.Store store.old store.new self.old self.new result }
         ensures store { OnlyReads S.Store store.old store.new self.old self.new result }
         ensures reader { CountsNext self.old self.new result }
-        ensures unmoved { ¬ IsLine result → LosesNothing self.old self.new
-            (prepend_known self.old.kept (S.left store.old))
-            (prepend_known self.new.kept (S.left store.new)) }
+        ensures unmoved { KeepsUngiven S.Store store.old store.new self.old self.new result }
     {
         if let Some(fault) = self.fault {
             return Err(fault);
@@ -205,8 +192,7 @@ impl LineReader {
         ensures front { take (length result.now) self.now.kept ≡ result.now }
         ensures held { length result.now ≤ length self.now.kept }
         ensures within { self.now.passed + length result.now ≤ self.now.input }
-        ensures whole { 16 ≤ self.now.line_limit → self.now.fault ≡ None
-            → length result.now ≡ min (length self.now.kept) (self.now.input - self.now.passed) }
+        ensures whole { IsReadyCount self.now (length result.now) }
         ensures short { 0 < length result.now → 16 ≤ self.now.line_limit }
         ensures given { 0 < length result.now → self.now.given ≡ self.now.passed }
         ensures sound { 0 < length result.now → self.now.fault ≡ None }

@@ -1,7 +1,7 @@
 //! A sink in memory with room for so many bytes, of whose calls some are to fail.
 ghost use Rattle.std.specs.Prelude.{◌≡◌, ◌+◌, ◌-◌, ◌<◌, ◌≤◌, Some, IfOk, OnOk, OnErr, length, take, if◌then◌else◌};
 ghost use Rattle.hp_outside.specs.Calls.{fail_also_at, next_fails, after_call};
-ghost use Rattle.hp_outside.specs.MemSinkState.{new_sink, fitting_count, write_fails, with_front, after_fault};
+ghost use Rattle.hp_outside.specs.MemSinkState.{new_sink, write_answer, after_flush, after_write};
 
 use crate::calls::CallCounter;
 use crate::sink::Sink;
@@ -72,10 +72,8 @@ impl Sink for MemSink {
     /// Takes as many bytes as still fit, and takes no memory. It fails where its call is one that
     /// is to fail, and where nothing fits of a piece that is not empty.
     fn write(&mut self, piece: &[u8]) -> Result<usize, Failed>
-        ensures answer { result ≡ (if write_fails self.old (length piece.now)
-            then Err (record {}) else Ok (fitting_count self.old (length piece.now))) }
-        ensures after { self.new ≡ (if write_fails self.old (length piece.now)
-            then after_fault self.old else with_front self.old piece.now) }
+        ensures answer { result ≡ write_answer self.old (length piece.now) }
+        ensures after { self.new ≡ after_write self.old piece.now }
         ensures faults { self.old.calls.faults ≤ self.new.calls.faults }
     {
         let fails = self.calls.next_fails() || (!piece.is_empty() && self.room == 0);
@@ -95,9 +93,7 @@ impl Sink for MemSink {
     fn flush(&mut self) -> Result<(), Failed>
         ensures answer { result ≡ (if next_fails self.old.calls then Err (record {}) else Ok tt) }
         ensures faults { self.old.calls.faults ≤ self.new.calls.faults }
-        ensures after { self.new ≡ record self.old {
-          calls = after_call self.old.calls (next_fails self.old.calls);
-        } }
+        ensures after { self.new ≡ after_flush self.old }
     {
         let fails = self.calls.next_fails();
         self.calls.count_call(fails);

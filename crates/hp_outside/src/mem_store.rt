@@ -1,12 +1,12 @@
 //! A store in memory of whose calls some are to fail, so that a caller's answer to each failure
 //! can be compared with what it should be.
 ghost use Rattle.std.specs.Prelude.{◌≡◌, ◌≢◌, ◌-◌, ◌^◌, ◌<◌, ◌≤◌, ◌↔◌, ℕ, List, [], None, Some, IsSome, IfOk, OnOk, OnErr, is_some, is_ok, length, take, if◌then◌else◌};
-ghost use Rattle.std.specs.Io.KnownBytes.{prepend_known};
-ghost use Rattle.hp_outside.specs.Folder.{file_of};
-ghost use Rattle.hp_outside.specs.Taken.{WhereTold};
+ghost use Rattle.hp_outside.specs.Folder.{KeepsOthers, file_of};
+ghost use Rattle.hp_outside.specs.MemStoreState.{opened_by, read_answer, store_read};
+ghost use Rattle.hp_outside.specs.Taken.{IsEndAt, IsReadInto};
 ghost use Rattle.hp_outside.specs.Calls.{no_calls, fail_also_at, next_fails, after_call};
-ghost use Rattle.hp_outside.specs.SureStoreState.{new_store, with_file, after_open, read_count, after_read};
-ghost use Rattle.hp_outside.specs.OpenAnswer.{open_answer};
+ghost use Rattle.hp_outside.specs.SureStoreState.{new_store, with_file};
+ghost use Rattle.hp_outside.specs.OpenAnswer.{TellsAbsent, open_answer};
 
 use crate::calls::CallCounter;
 use crate::store::{Failed, OpenFault, Store};
@@ -54,8 +54,8 @@ impl MemStore {
         requires { file_of self.old.store.folder name.now ≡ None }
         ensures added { OnOk result (self.new.store ≡ with_file self.old.store name.now bytes.now) }
         ensures held { OnOk result (file_of self.new.store.folder name.now ≡ Some bytes.now) }
-        ensures others { OnOk result ((other : List ℕ) → other ≢ name.now
-            → file_of self.new.store.folder other ≡ file_of self.old.store.folder other) }
+        ensures others { OnOk result
+            (KeepsOthers self.old.store.folder self.new.store.folder name.now) }
         ensures calls { self.new.calls ≡ self.old.calls }
         ensures kept { OnErr result (self.new ≡ self.old) }
     {
@@ -88,12 +88,10 @@ impl Store for MemStore {
     /// An absent name is `Absent`, also where the call is one that is to fail.
     fn open(&mut self, name: &str) -> Result<(), OpenFault>
         requires { self.old.store.opens < 2 ^ 64 - 1 }
-        ensures absent { (result ≡ Err OpenFault.Absent)
-            ↔ (file_of self.old.store.folder name.now ≡ None) }
+        ensures absent { TellsAbsent self.old.store.folder name.now result }
         ensures answer { result
             ≡ open_answer (file_of self.old.store.folder name.now) (next_fails self.old.calls) }
-        ensures left { self.new.store ≡ after_open self.old.store
-            (if is_ok result then file_of self.old.store.folder name.now else None) }
+        ensures left { self.new.store ≡ opened_by self.old.store name.now result }
         ensures faults { self.old.calls.faults ≤ self.new.calls.faults }
         ensures calls { self.new.calls ≡ after_call self.old.calls (next_fails self.old.calls) }
     {
@@ -113,14 +111,10 @@ impl Store for MemStore {
         requires current { IsSome self.old.store.left }
         requires room { 0 < length buf.old }
         ensures taken { IfOk result
-            (λ count. self.old.store.left
-            ≡ prepend_known (take count buf.new) self.new.store.left) }
-        ensures end { IfOk result
-            (λ count. count ≡ 0 → WhereTold self.old.store.left (λ bytes. bytes ≡ [])) }
-        ensures answer { result ≡ (if next_fails self.old.calls
-            then Err (record {}) else Ok (read_count self.old.store (length buf.old))) }
-        ensures left { self.new.store ≡ (if next_fails self.old.calls
-            then self.old.store else after_read self.old.store (length buf.old)) }
+            (IsReadInto buf.new self.old.store.left self.new.store.left) }
+        ensures end { IfOk result (IsEndAt self.old.store.left) }
+        ensures answer { result ≡ read_answer self.old (length buf.old) }
+        ensures left { self.new.store ≡ store_read self.old (length buf.old) }
         ensures faults { self.old.calls.faults ≤ self.new.calls.faults }
         ensures calls { self.new.calls ≡ after_call self.old.calls (next_fails self.old.calls) }
     {

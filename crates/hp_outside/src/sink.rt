@@ -1,6 +1,6 @@
 //! What a program writes to. Where the bytes go is each sink's own matter.
 ghost use Rattle.std.specs.Prelude.{◌≡◌, ◌<◌, ◌≤◌, ℕ, List, Option, IfOk, OnOk, OnErr, length, take};
-ghost use Rattle.std.specs.Io.KnownBytes.{append_known};
+ghost use Rattle.hp_outside.specs.Taken.{IsWrittenFrom};
 ghost use Rattle.hp_outside.specs.Faults.{Faulted};
 
 use crate::store::Failed;
@@ -26,7 +26,7 @@ pub trait Sink {
         ensures count { IfOk result (λ count. count ≤ length piece.now) }
         ensures progress { IfOk result (λ count. 0 < length piece.now → 0 < count) }
         ensures taken { IfOk result
-            (λ count. written self.new ≡ append_known (written self.old) (take count piece.now)) }
+            (IsWrittenFrom piece.now (written self.old) (written self.new)) }
         ensures kept { OnErr result (written self.new ≡ written self.old) }
         ensures sound { OnOk result (faults self.new ≡ faults self.old) }
         ensures failed { OnErr result (Faulted (faults self.old) (faults self.new)) };

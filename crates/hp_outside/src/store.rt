@@ -1,11 +1,11 @@
 //! What a program reads from: named files, one of which is current at a time.
 //! Which files there are, and where they lie, is each store's own matter.
 ghost use Rattle.std.specs.Prelude.{◌≡◌, ◌+◌, ◌-◌, ◌^◌, ◌<◌, ◌≤◌, ◌↔◌, ℕ, Bool, List, [], None, Option, IsTrue, IsSome, IfOk, OnOk, OnErr, is_ok, length, take};
-ghost use Rattle.std.specs.Io.KnownBytes.{prepend_known};
 ghost use Rattle.hp_outside.specs.Folder.{Folder, file_of};
 ghost use Rattle.hp_outside.specs.Faults.{Faulted};
 ghost use Rattle.hp_outside.specs.FaultTexts.{open_text};
-ghost use Rattle.hp_outside.specs.Taken.{WhereTold};
+ghost use Rattle.hp_outside.specs.OpenAnswer.{IsLeftOf, TellsAbsent};
+ghost use Rattle.hp_outside.specs.Taken.{IsEndAt, IsReadInto, WhereTold};
 
 use thiserror::Error;
 
@@ -67,11 +67,11 @@ pub trait Store {
         ensures opens { opens self.new ≡ opens self.old + 1 }
         ensures faults { faults self.old ≤ faults self.new }
         ensures left { WhereTold (files self.old)
-            (λ folder. OnOk result (left self.new ≡ file_of folder name.now)) }
+            (λ folder. IsLeftOf folder name.now (left self.new) result) }
         ensures found { WhereTold (files self.old)
             (λ folder. OnOk result (IsSome (file_of folder name.now))) }
         ensures absent { WhereTold (files self.old)
-            (λ folder. (result ≡ Err OpenFault.Absent) ↔ (file_of folder name.now ≡ None)) }
+            (λ folder. TellsAbsent folder name.now result) }
         ensures sound { OnOk result (faults self.new ≡ faults self.old) }
         ensures absent_untold { files self.old ≡ None → result ≡ Err OpenFault.Absent
             → Faulted (faults self.old) (faults self.new) }
@@ -90,10 +90,8 @@ pub trait Store {
         ensures opens { opens self.new ≡ opens self.old }
         ensures faults { faults self.old ≤ faults self.new }
         ensures count { IfOk result (λ count. count ≤ length buf.old) }
-        ensures taken { IfOk result
-            (λ count. left self.old ≡ prepend_known (take count buf.new) (left self.new)) }
-        ensures end { IfOk result
-            (λ count. count ≡ 0 → WhereTold (left self.old) (λ bytes. bytes ≡ [])) }
+        ensures taken { IfOk result (IsReadInto buf.new (left self.old) (left self.new)) }
+        ensures end { IfOk result (IsEndAt (left self.old)) }
         ensures kept { OnErr result (left self.new ≡ left self.old) }
         ensures sound { OnOk result (faults self.new ≡ faults self.old) }
         ensures failed { OnErr result (Faulted (faults self.old) (faults self.new)) };

@@ -1,11 +1,10 @@
 //! A store in memory that never fails: an open of a name that it holds and a read always succeed.
 ghost use Rattle.std.specs.Prelude.{◌≡◌, ◌≢◌, ◌+◌, ◌-◌, ◌^◌, ◌<◌, ◌↔◌, ℕ, List, [], None, Some, Option, IsSome, IfOk, OnOk, OnErr, MatchOption, is_some, false, length, take};
-ghost use Rattle.std.specs.Io.KnownBytes.{prepend_known};
-ghost use Rattle.hp_outside.specs.Folder.{file_of};
-ghost use Rattle.hp_outside.specs.Taken.{WhereTold};
+ghost use Rattle.hp_outside.specs.Folder.{KeepsOthers, file_of};
+ghost use Rattle.hp_outside.specs.Taken.{IsEndAt, IsReadInto};
 ghost use Rattle.hp_outside.specs.SureStoreState.{new_store, with_file, after_open, read_count, after_read};
-ghost use Rattle.hp_outside.specs.OpenAnswer.{open_answer};
-ghost use Rattle.hp_outside.specs.HeldFiles.{folder_of, bytes_at};
+ghost use Rattle.hp_outside.specs.OpenAnswer.{TellsAbsent, open_answer};
+ghost use Rattle.hp_outside.specs.HeldFiles.{HasNoFile, IsFileNumber, folder_of};
 
 use crate::store::{Failed, OpenFault, Store};
 use hp_num::NoMemory;
@@ -76,8 +75,7 @@ impl SureStore {
         requires { file_of self.old.folder name.now ≡ None }
         ensures added { OnOk result (self.new ≡ with_file self.old name.now bytes.now) }
         ensures held { OnOk result (file_of self.new.folder name.now ≡ Some bytes.now) }
-        ensures others { OnOk result ((other : List ℕ) → other ≢ name.now
-            → file_of self.new.folder other ≡ file_of self.old.folder other) }
+        ensures others { OnOk result (KeepsOthers self.old.folder self.new.folder name.now) }
         ensures kept { OnErr result (self.new ≡ self.old) }
     {
         let alloc = *self.files.allocator();
@@ -97,9 +95,8 @@ impl SureStore {
 }
 
 fn file_number(files: &Vec<HeldFile>, name: &[u8]) -> Option<usize>
-    ensures { MatchOption result (file_of (folder_of files.now.items) name.now ≡ None)
-        (λ number. (number < length files.now.items)
-        × (file_of (folder_of files.now.items) name.now ≡ Some (bytes_at files.now.items number))) }
+    ensures { MatchOption result (HasNoFile files.now.items name.now)
+        (IsFileNumber files.now.items name.now) }
 {
     for (number, file) in files.iter().enumerate() {
         if file.name.as_slice() == name {
@@ -125,8 +122,7 @@ impl Store for SureStore {
     /// Never answers `Failed`.
     fn open(&mut self, name: &str) -> Result<(), OpenFault>
         requires { self.old.opens < 2 ^ 64 - 1 }
-        ensures absent { (result ≡ Err OpenFault.Absent)
-            ↔ (file_of self.old.folder name.now ≡ None) }
+        ensures absent { TellsAbsent self.old.folder name.now result }
         ensures answer { result ≡ open_answer (file_of self.old.folder name.now) false }
         ensures after { self.new ≡ after_open self.old (file_of self.old.folder name.now) }
     {
@@ -147,10 +143,8 @@ impl Store for SureStore {
     fn read(&mut self, buf: &mut [u8]) -> Result<usize, Failed>
         requires current { IsSome self.old.left }
         requires room { 0 < length buf.old }
-        ensures taken { IfOk result
-            (λ count. self.old.left ≡ prepend_known (take count buf.new) self.new.left) }
-        ensures end { IfOk result
-            (λ count. count ≡ 0 → WhereTold self.old.left (λ bytes. bytes ≡ [])) }
+        ensures taken { IfOk result (IsReadInto buf.new self.old.left self.new.left) }
+        ensures end { IfOk result (IsEndAt self.old.left) }
         ensures answer { result ≡ Ok (read_count self.old (length buf.old)) }
         ensures after { self.new ≡ after_read self.old (length buf.old) }
     {

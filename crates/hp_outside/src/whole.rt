@@ -4,6 +4,7 @@ ghost use Rattle.std.specs.Prelude.{◌≡◌, ◌≢◌, ◌+◌, ◌^◌, ◌<
 ghost use Rattle.std.specs.Io.KnownBytes.{append_known, prepend_known};
 ghost use Rattle.hp_outside.specs.Faults.{Faulted};
 ghost use Rattle.hp_outside.specs.FaultTexts.{whole_text};
+ghost use Rattle.hp_outside.specs.StoreCalls.{ReadsOn};
 ghost use Rattle.hp_outside.specs.Taken.{WhereTold, LosesFront, GainsFront, GainsCutFront};
 ghost use Rattle.hp_outside.specs.Whole.{WholeAnswer};
 ghost use Rattle.hp_outside.specs.declared.whole.WholeFault.TheVariants.{NoMemory, ReadFailed};
@@ -95,10 +96,7 @@ pub fn read_whole<S: Store>(
     store: &mut S,
 ) -> Result<Bytes, WholeFault>
     requires { IsTrue (S.current store.old) }
-    ensures files { S.files store.new ≡ S.files store.old }
-    ensures current { S.current store.new ≡ S.current store.old }
-    ensures opens { S.opens store.new ≡ S.opens store.old }
-    ensures faults { S.faults store.old ≤ S.faults store.new }
+    ensures reads { ReadsOn S.Store store.old store.new }
     ensures answer { WhereTold (S.left store.old)
         (λ bytes. WholeAnswer limits.now.input bytes result) }
     ensures given { IfOk result
@@ -128,13 +126,11 @@ pub fn read_whole<S: Store>(
 /// Lengthens a buffer that is filled to its end, to twice its length and no further than `most`.
 fn make_room(bytes: &mut Vec<u8>, filled: usize, most: usize) -> Result<(), AllocError>
     requires below { filled < most }
-    requires filled { filled ≤ vec_len bytes.old }
-    requires bounded { vec_len bytes.old ≤ most }
+    requires held { (filled ≤ vec_len bytes.old) × (vec_len bytes.old ≤ most) }
     requires fits { most ≤ 2 ^ 34 + 1 }
     ensures room { OnOk result (filled < vec_len bytes.new) }
-    ensures bound { vec_len bytes.new ≤ most }
+    ensures held { (filled ≤ vec_len bytes.new) × (vec_len bytes.new ≤ most) }
     ensures kept { take filled bytes.new.items ≡ take filled bytes.old.items }
-    ensures filled { filled ≤ vec_len bytes.new }
 {
     let len = bytes.len();
     if filled < len {

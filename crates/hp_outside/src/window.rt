@@ -5,7 +5,7 @@ ghost use Rattle.std.specs.Io.KnownBytes.{prepend_known};
 ghost use Rattle.hp_outside.specs.Faults.{Faulted};
 ghost use Rattle.hp_outside.specs.Taken.{WhereTold};
 ghost use Rattle.hp_outside.specs.StoreCalls.{ReadsOn};
-ghost use Rattle.hp_outside.specs.WindowCalls.{Fills, KeepsFront, MakesRoom, ReadsPart};
+ghost use Rattle.hp_outside.specs.WindowCalls.{Fills, KeepsFront, KeepsHeld, MakesRoom, ReadsPart};
 
 use crate::span::Span;
 use crate::store::{Failed, Store};
@@ -141,8 +141,7 @@ impl Window {
 /// Lengthens a buffer that has room for it to `len` bytes, where it is shorter. It takes no memory.
 fn fill_to(buffer: &mut Vec<u8>, len: usize)
     requires { len ≤ vec_capacity buffer.old }
-    ensures front { (count : ℕ) → count ≤ vec_len buffer.old
-        → take count buffer.new.items ≡ take count buffer.old.items }
+    ensures front { KeepsHeld buffer.old buffer.new }
     ensures len { len ≤ vec_len buffer.new }
     ensures longer { vec_len buffer.old ≤ vec_len buffer.new }
     ensures capacity { vec_capacity buffer.old ≤ vec_capacity buffer.new }
@@ -164,8 +163,7 @@ fn read_part<S: Store>(
 ) -> Result<usize, Failed>
     requires current { IsTrue (S.current store.old) }
     requires part { start < end }
-    requires held { start ≤ vec_len buffer.old }
-    requires room { end ≤ vec_capacity buffer.old }
+    requires room { (start ≤ vec_len buffer.old) × (end ≤ vec_capacity buffer.old) }
     ensures store { ReadsOn S.Store store.old store.new }
     ensures buffer { KeepsFront buffer.old buffer.new start end }
     ensures read { ReadsPart S.Store store.old store.new buffer.new start end result }

@@ -47,13 +47,13 @@ returns-in-Ok-read_whole-clause-read g c =
     (store.left c.open.new.self) c.in-Ok-read_whole.bytes c.in-Ok.ensures.left c.in-Ok.ensures.found
     (subst (λ result. WhereTold (store.left c.open.new.self)
     (λ bytes. WholeAnswer c.args.context.now.limits.input bytes result)) c.in-Ok-read_whole.is whole.answer)
-    (record { opens = whole.opens ∙ opens.opens; current_is = whole.current ∙ (opens.current ∙ ap is_ok c.in-Ok.is) })
+    (record { opens = whole.reads.opens ∙ opens.opens; current_is = whole.reads.current ∙ (opens.current ∙ ap is_ok c.in-Ok.is) })
     (whole.sound (λ is. absurd (cc)) ∙ c.in-Ok.ensures.sound) c.in-Ok-read_whole.ensures.ended in
     record {
       end = ended.0;
       read = ended.1.0;
       gives = ended.1.1;
-      files = whole.files ∙ opens.files;
+      files = whole.reads.files ∙ opens.files;
       no_write = λ four. omega (arith, four);
     }
 
@@ -72,7 +72,7 @@ returns-in-Err-read_whole-clause-read g c =
     (store.left c.open.new.self) c.in-Err-read_whole.fault c.unread.result c.in-Ok.ensures.left c.in-Ok.ensures.found
     (subst (λ result. WhereTold (store.left c.open.new.self)
     (λ bytes. WholeAnswer c.args.context.now.limits.input bytes result)) c.in-Err-read_whole.is whole.answer)
-    (record { opens = whole.opens ∙ opens.opens; current_is = whole.current ∙ (opens.current ∙ ap is_ok c.in-Ok.is) })
+    (record { opens = whole.reads.opens ∙ opens.opens; current_is = whole.reads.current ∙ (opens.current ∙ ap is_ok c.in-Ok.is) })
     (λ is. subst (λ n. Faulted n (store.faults c.read_whole.new.store)) c.in-Ok.ensures.sound
     (whole.failed (c.in-Err-read_whole.is ∙ ap Err is)))
     (λ other. whole.sound (λ is. other (cc)) ∙ c.in-Ok.ensures.sound) c.unread.ensures.answer c.unread.ensures.memory in
@@ -80,6 +80,6 @@ returns-in-Err-read_whole-clause-read g c =
       end = ended.0;
       read = ended.1.0;
       gives = ended.1.1;
-      files = whole.files ∙ opens.files;
+      files = whole.reads.files ∙ opens.files;
       no_write = c.unread.ensures.write;
     }
