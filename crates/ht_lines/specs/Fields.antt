@@ -1,7 +1,7 @@
 -- The fields of a text, and the numbers that they are. Fields are the pieces between blanks that
 -- aren't empty.
 use Rattle.std.specs.Prelude.{◌≡◌, ℕ, Bool, true, ◌==◌, if◌then◌else◌, List, [], ◌∷◌, length, nat_lt, filter, map, Some}
-use Rattle.std.specs.Prelude.{is_some, unwrap_or}
+use Rattle.std.specs.Prelude.{IsTrue, is_some, unwrap_or}
 use Rattle.std.specs.List.{slice_split, list_all}
 use Rattle.hp_num.specs.ParsedHex.{parsed_hex}
 
@@ -55,3 +55,11 @@ number f = unwrap_or (parsed_hex f) 0
 -- the numbers of the text's fields
 abbrev pub numbers : List ℕ → List ℕ
 numbers text = map number (fields text)
+
+-- where all fields of the one text are numbers, those of the other are
+abbrev pub KeepsNumbers : List ℕ → List ℕ → Type 0
+KeepsNumbers text rest = IsTrue (all_numbers (fields text)) → IsTrue (all_numbers (fields rest))
+
+-- the text has one field, and it is the number
+abbrev pub IsLoneNumber : List ℕ → ℕ → Type 0
+IsLoneNumber text n = (digits : List ℕ) × (fields text ≡ digits ∷ []) × (parsed_hex digits ≡ Some n)

@@ -1,6 +1,6 @@
 -- An item is whole where its tail has numbers alone, as many as it says; its tail is what follows
 -- the fields before it.
-use Rattle.std.specs.Prelude.{◌≡◌, ℕ, ◌+◌, ◌*◌, List, length, IsTrue, IfSome, Result, Ok, Err}
+use Rattle.std.specs.Prelude.{◌≡◌, ℕ, ◌+◌, ◌*◌, List, length, IsTrue, IfOk, IfSome, Result, Ok, Err}
 use Rattle.ht_lines.specs.declared.item.Item.{Item}
 use Rattle.ht_lines.specs.declared.item.Item.TheVariants.{Version, Executable, Command, System, Str, ModuleClear}
 use Rattle.ht_lines.specs.declared.item.Item.TheVariants.{Module, Instr, Node, Info, Alloc, Free, RawAlloc, RawFree}
@@ -54,3 +54,7 @@ HasTail version rest _ = Unit {0}
 abbrev pub Gives : Result Item Malformed → Result Content Malformed → Type 0
 Gives (Ok item) read = read ≡ Ok (content item)
 Gives (Err fault) read = read ≡ Err fault
+
+-- the item that is given has its tail, in whichever version it is read
+abbrev pub HasTailInEach : List ℕ → Result Item Malformed → Type 0
+HasTailInEach rest result = (version : ℕ) → IfOk result (HasTail version rest)

@@ -9,6 +9,7 @@ pub mod Refuses
 pub mod Reading
 pub mod ItemContent
 pub mod Written
+pub mod OneReading
 pub mod EventLine
 pub mod OneLine
 pub mod RawLine

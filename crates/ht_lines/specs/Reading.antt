@@ -23,6 +23,11 @@ abbrev pub with_number : {X : Type 0} → Option ℕ → (ℕ → Result X Malfo
 with_number None next = Err BadField
 with_number (Some n) next = next n
 
+-- the numbers that two fields are
+abbrev pub both_numbers : List ℕ → List ℕ → Result (ℕ × ℕ) Malformed
+both_numbers first second = with_number (parsed_hex first)
+    (λ m. with_number (parsed_hex second) (λ n. Ok (m, n)))
+
 -- the one field's number
 abbrev pub one_number : List (List ℕ) → Result ℕ Malformed
 one_number [] = Err MissingField

@@ -13,6 +13,7 @@ use Rattle.ht_lines.specs.Content.{Content, version_line, executable_line, comma
 use Rattle.ht_lines.specs.Content.{clear_line, module_line, instruction_line, node_line, info_line, allocation_line}
 use Rattle.ht_lines.specs.Content.{free_line, raw_allocation_line, raw_free_line, clock_line, resident_line}
 use Rattle.ht_lines.specs.Content.{attached_line, suppression_line, comment_line, other_line}
+use Rattle.ht_lines.specs.Fields.{numbers}
 use Rattle.ht_lines.specs.Kinds.{IsOther}
 use Rattle.ht_lines.specs.Reads.{RangesFit}
 
@@ -46,6 +47,19 @@ written version (resident_line pages) = codes "R" ++ spelled (pages ∷ [])
 written version attached_line = codes "A"
 written version (comment_line bytes) = codes "#" ++ bytes
 written version (other_line bytes) = bytes
+
+-- the line of a kind and a text, with its line feed
+abbrev pub text_line : List ℕ → ℕ → List ℕ → List ℕ
+text_line kind version text = (kind ++ spelled_text version text) ++ (10 ∷ [])
+
+-- the line of a module with its ranges, with its line feed
+abbrev pub module_text : ℕ → List ℕ → ℕ → List ℕ → List ℕ
+module_text version name start tail
+    = written version (module_line name start (numbers tail)) ++ (10 ∷ [])
+
+-- the line of an instruction with its frames, with its line feed
+abbrev pub instr_text : ℕ → ℕ → List ℕ → List ℕ
+instr_text ip module_string tail = (105 ∷ spelled (ip ∷ module_string ∷ numbers tail)) ++ (10 ∷ [])
 
 -- the numbers fit 64 bits
 abbrev pub AreWords : List ℕ → Type 0

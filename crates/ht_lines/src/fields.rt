@@ -5,7 +5,7 @@ ghost use Rattle.std.specs.Prelude.{◌≡◌, ℕ, ◌+◌, ◌^◌, ◌<◌, �
 ghost use Rattle.std.specs.Option.{option_and_then, option_copied};
 ghost use Rattle.std.specs.List.{position};
 ghost use Rattle.hp_num.specs.ParsedHex.{parsed_hex};
-ghost use Rattle.ht_lines.specs.Fields.{after_blanks, after_field, all_numbers, before_blank, field_ends, fields, first_field, from_blank, is_blank, number, numbers};
+ghost use Rattle.ht_lines.specs.Fields.{KeepsNumbers, after_blanks, after_field, all_numbers, before_blank, field_ends, fields, first_field, from_blank, is_blank, number, numbers};
 
 use hp_num::parse_hex;
 
@@ -47,9 +47,7 @@ pub fn next_number(text: &[u8]) -> Option<(u64, &[u8])>
     ensures after { IfSome result (λ found. found.1.now ≡ after_field text.now) }
     ensures count { IfSome result
         (λ found. length (fields text.now) ≡ length (fields found.1.now) + 1) }
-    ensures all { IfSome result
-        (λ found. IsTrue (all_numbers (fields text.now))
-        → IsTrue (all_numbers (fields found.1.now))) }
+    ensures all { IfSome result (λ found. KeepsNumbers text.now found.1.now) }
     ensures shorter { IfSome result (λ found. length found.1.now < length text.now) }
 {
     let (field, after) = next_field(text)?;

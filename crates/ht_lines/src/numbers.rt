@@ -3,10 +3,10 @@
 //! Each call is given what follows the kind.
 ghost use Rattle.std.specs.Prelude.{◌≡◌, ℕ, ◌^◌, ◌<◌, ◌≤◌, List, [], ◌∷◌, length, Some, IfOk, IfSome, MatchResult, Result, Ok, Err};
 ghost use Rattle.hp_num.specs.ParsedHex.{parsed_hex};
-ghost use Rattle.ht_lines.specs.Fields.{fields};
+ghost use Rattle.ht_lines.specs.Fields.{IsLoneNumber, fields};
 ghost use Rattle.ht_lines.specs.Content.{info_line, node_line, resident_line, system_line};
-ghost use Rattle.ht_lines.specs.Reading.{allocation_of, clock_from, free_of, info_number, one_number, say, three_numbers, two_numbers, version_from, version_of, with_number};
-ghost use Rattle.ht_lines.specs.ItemContent.{Gives, HasTail, IsWhole};
+ghost use Rattle.ht_lines.specs.Reading.{allocation_of, both_numbers, clock_from, free_of, info_number, one_number, say, three_numbers, two_numbers, version_from, version_of, with_number};
+ghost use Rattle.ht_lines.specs.ItemContent.{Gives, HasTailInEach, IsWhole};
 
 use crate::fields::next_field;
 use crate::item::{Form, Item, Malformed};
@@ -17,8 +17,7 @@ const MAX_MS: u64 = 1 << 62;
 
 /// The number of a text that is one blank and a number, as the lines of events are written: one walk over the text.
 fn lone_number(rest: &[u8]) -> Option<u64>
-    ensures { IfSome result
-        (λ n. (digits : List ℕ) × (fields rest.now ≡ digits ∷ []) × (parsed_hex digits ≡ Some n)) }
+    ensures { IfSome result (λ n. IsLoneNumber rest.now n) }
 {
     let [blank, digits @ ..] = rest else {
         return None;
@@ -71,8 +70,7 @@ pub fn two_numbers(rest: &[u8]) -> Result<(u64, u64), Malformed>
 /// The numbers that two fields are.
 #[inline(always)]
 fn both_numbers(first: &[u8], second: &[u8]) -> Result<(u64, u64), Malformed>
-    ensures { result ≡ with_number (parsed_hex first.now)
-        (λ m. with_number (parsed_hex second.now) (λ n. Ok (m, n))) }
+    ensures { result ≡ both_numbers first.now second.now }
 {
     let Some(first) = parse_hex(first) else {
         return Err(Malformed::BadField);
@@ -87,7 +85,7 @@ fn both_numbers(first: &[u8], second: &[u8]) -> Result<(u64, u64), Malformed>
 pub fn read_version(rest: &[u8]) -> Result<Item<'_>, Malformed>
     ensures exact { Gives result (version_of (fields rest.now)) }
     ensures whole { IfOk result (λ item. IsWhole item) }
-    ensures tail { (version : ℕ) → IfOk result (λ item. HasTail version rest.now item) }
+    ensures tail { HasTailInEach rest.now result }
 {
     let (heaptrack, file) = versions(rest)?;
     if !(1..=3).contains(&file) {
@@ -147,7 +145,7 @@ pub fn three_numbers(rest: &[u8]) -> Result<(u64, u64, u64), Malformed>
 pub fn read_allocation(form: Form, rest: &[u8]) -> Result<Item<'_>, Malformed>
     ensures exact { Gives result (allocation_of form (fields rest.now)) }
     ensures whole { IfOk result (λ item. IsWhole item) }
-    ensures tail { (version : ℕ) → IfOk result (λ item. HasTail version rest.now item) }
+    ensures tail { HasTailInEach rest.now result }
 {
     match form {
         Form::Interpreted => {
@@ -199,7 +197,7 @@ fn fault_of_more(after: &[u8]) -> Malformed
 pub fn read_clock(rest: &[u8]) -> Result<Item<'_>, Malformed>
     ensures exact { Gives result (clock_from (one_number (fields rest.now))) }
     ensures whole { IfOk result (λ item. IsWhole item) }
-    ensures tail { (version : ℕ) → IfOk result (λ item. HasTail version rest.now item) }
+    ensures tail { HasTailInEach rest.now result }
 {
     let ms = one_number(rest)?;
     if ms > MAX_MS {
@@ -212,7 +210,7 @@ pub fn read_clock(rest: &[u8]) -> Result<Item<'_>, Malformed>
 pub fn read_system(rest: &[u8]) -> Result<Item<'_>, Malformed>
     ensures exact { Gives result (say (λ x. system_line x.0 x.1) (two_numbers (fields rest.now))) }
     ensures whole { IfOk result (λ item. IsWhole item) }
-    ensures tail { (version : ℕ) → IfOk result (λ item. HasTail version rest.now item) }
+    ensures tail { HasTailInEach rest.now result }
 {
     let (page, pages) = two_numbers(rest)?;
     Ok(Item::System { page, pages })
@@ -222,7 +220,7 @@ pub fn read_system(rest: &[u8]) -> Result<Item<'_>, Malformed>
 pub fn read_node(rest: &[u8]) -> Result<Item<'_>, Malformed>
     ensures exact { Gives result (say (λ x. node_line x.0 x.1) (two_numbers (fields rest.now))) }
     ensures whole { IfOk result (λ item. IsWhole item) }
-    ensures tail { (version : ℕ) → IfOk result (λ item. HasTail version rest.now item) }
+    ensures tail { HasTailInEach rest.now result }
 {
     let (ip, parent) = two_numbers(rest)?;
     Ok(Item::Node { ip, parent })
@@ -232,7 +230,7 @@ pub fn read_node(rest: &[u8]) -> Result<Item<'_>, Malformed>
 pub fn read_info(rest: &[u8]) -> Result<Item<'_>, Malformed>
     ensures exact { Gives result (say (λ x. info_line x.0 x.1) (two_numbers (fields rest.now))) }
     ensures whole { IfOk result (λ item. IsWhole item) }
-    ensures tail { (version : ℕ) → IfOk result (λ item. HasTail version rest.now item) }
+    ensures tail { HasTailInEach rest.now result }
 {
     let (size, trace) = two_numbers(rest)?;
     Ok(Item::Info { size, trace })
@@ -242,7 +240,7 @@ pub fn read_info(rest: &[u8]) -> Result<Item<'_>, Malformed>
 pub fn read_free(form: Form, rest: &[u8]) -> Result<Item<'_>, Malformed>
     ensures exact { Gives result (free_of form (fields rest.now)) }
     ensures whole { IfOk result (λ item. IsWhole item) }
-    ensures tail { (version : ℕ) → IfOk result (λ item. HasTail version rest.now item) }
+    ensures tail { HasTailInEach rest.now result }
 {
     let number = one_number(rest)?;
     Ok(match form {
@@ -255,7 +253,7 @@ pub fn read_free(form: Form, rest: &[u8]) -> Result<Item<'_>, Malformed>
 pub fn read_resident(rest: &[u8]) -> Result<Item<'_>, Malformed>
     ensures exact { Gives result (say resident_line (one_number (fields rest.now))) }
     ensures whole { IfOk result (λ item. IsWhole item) }
-    ensures tail { (version : ℕ) → IfOk result (λ item. HasTail version rest.now item) }
+    ensures tail { HasTailInEach rest.now result }
 {
     let pages = one_number(rest)?;
     Ok(Item::Rss { pages })

@@ -54,7 +54,7 @@ pub fn raw_line(bytes: &[u8]) -> Option<RawLine>
 #[inline(always)]
 fn allocation_line(front: &[u8; LONGEST]) -> Option<RawLine>
     requires { get_or front.now 0 0 ≡ 43 }
-    ensures { IfSome result (λ found. BeginsWithRaw front.now found) }
+    ensures { IfSome result (BeginsWithRaw front.now) }
 {
     let (size, end) = field_at(front, 1)?;
     let (trace, end) = field_at(front, end)?;
@@ -71,7 +71,7 @@ fn allocation_line(front: &[u8; LONGEST]) -> Option<RawLine>
 #[inline(always)]
 fn free_line(front: &[u8; LONGEST]) -> Option<RawLine>
     requires { get_or front.now 0 0 ≡ 45 }
-    ensures { IfSome result (λ found. BeginsWithRaw front.now found) }
+    ensures { IfSome result (BeginsWithRaw front.now) }
 {
     let (ptr, end) = field_at(front, 1)?;
     if front[end] != b'\n' {
@@ -86,7 +86,7 @@ fn free_line(front: &[u8; LONGEST]) -> Option<RawLine>
 #[inline(always)]
 fn node_line(front: &[u8; LONGEST]) -> Option<RawLine>
     requires { get_or front.now 0 0 ≡ 116 }
-    ensures { IfSome result (λ found. BeginsWithRaw front.now found) }
+    ensures { IfSome result (BeginsWithRaw front.now) }
 {
     let (ip, end) = field_at(front, 1)?;
     let (parent, end) = field_at(front, end)?;

@@ -2,9 +2,9 @@
 //!
 //! No reference to another line is checked here.
 ghost use Rattle.std.specs.Prelude.{◌≡◌, ℕ, ◌^◌, ◌<◌, ◌≤◌, length, IfErr, IfOk, Ok, Err};
-ghost use Rattle.ht_lines.specs.Content.{Content};
 ghost use Rattle.ht_lines.specs.Kinds.{after_kind, is_foreign, is_kind};
 ghost use Rattle.ht_lines.specs.LeastLength.{least_length};
+ghost use Rattle.ht_lines.specs.OneReading.{HasOnlyTheFault, SaysOnlyWhatIsRead};
 ghost use Rattle.ht_lines.specs.Reading.{reading, reading_kind};
 ghost use Rattle.ht_lines.specs.Reads.{Reads};
 ghost use Rattle.ht_lines.specs.Refuses.{Refuses};
@@ -54,10 +54,8 @@ pub fn read_item(form: Form, version: u8, line: &[u8]) -> Result<Item<'_>, Malfo
     // The same by the relations: the item or the fault, and no other.
     ensures item { IfOk result (λ item. Reads form version line.now (content item)) }
     ensures fault { IfErr result (λ fault. Refuses form version line.now fault) }
-    ensures only_item { (said : Content) → Reads form version line.now said
-        → reading form version line.now ≡ Ok said }
-    ensures only_fault { (fault : Malformed) → Refuses form version line.now fault
-        → reading form version line.now ≡ Err fault }
+    ensures only_item { SaysOnlyWhatIsRead form version line.now }
+    ensures only_fault { HasOnlyTheFault form version line.now }
 {
     read_line(form, version, line)
 }
@@ -125,7 +123,7 @@ fn read_kind(form: Form, version: u8, kind: u8, rest: &[u8]) -> Result<Item<'_>,
     requires { length rest.now < 2 ^ 32 }
     ensures exact { Gives result (reading_kind form version kind rest.now) }
     ensures whole { IfOk result (λ item. IsWhole item) }
-    ensures tail { IfOk result (λ item. HasTail version rest.now item) }
+    ensures tail { IfOk result (HasTail version rest.now) }
 {
     match kind {
         b'v' => read_version(rest),

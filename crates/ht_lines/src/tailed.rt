@@ -5,7 +5,7 @@ ghost use Rattle.std.specs.Prelude.{◌≡◌, ℕ, ◌^◌, ◌<◌, ◌≤◌,
 ghost use Rattle.ht_lines.specs.Fields.{fields, numbers};
 ghost use Rattle.ht_lines.specs.ModuleName.{module_name};
 ghost use Rattle.ht_lines.specs.Reading.{instruction_of, module_of, named_module, ranges_fit};
-ghost use Rattle.ht_lines.specs.ItemContent.{Gives, HasTail, IsWhole};
+ghost use Rattle.ht_lines.specs.ItemContent.{Gives, HasTail, HasTailInEach, IsWhole};
 
 use crate::fields::{count_fields, next_number};
 use crate::item::{Item, Malformed};
@@ -17,7 +17,7 @@ pub fn read_instruction(rest: &[u8]) -> Result<Item<'_>, Malformed>
     requires { length rest.now < 2 ^ 32 }
     ensures exact { Gives result (instruction_of (fields rest.now)) }
     ensures whole { IfOk result (λ item. IsWhole item) }
-    ensures tail { (version : ℕ) → IfOk result (λ item. HasTail version rest.now item) }
+    ensures tail { HasTailInEach rest.now result }
 {
     let counted = count_fields(rest);
     if counted.count == 0 || counted.count % 3 == 1 {
@@ -45,7 +45,7 @@ pub fn read_module(version: u8, rest: &[u8]) -> Result<Item<'_>, Malformed>
     requires { length rest.now < 2 ^ 32 }
     ensures exact { Gives result (module_of (module_name version rest.now)) }
     ensures whole { IfOk result (λ item. IsWhole item) }
-    ensures tail { IfOk result (λ item. HasTail version rest.now item) }
+    ensures tail { IfOk result (HasTail version rest.now) }
 {
     match module_name(version, rest) {
         Some((name, tail)) => read_named_module(name, tail),
@@ -61,7 +61,7 @@ fn read_named_module<'a>(name: &'a [u8], tail: &'a [u8]) -> Result<Item<'a>, Mal
     ensures whole { IfOk result (λ item. IsWhole item) }
     ensures tail { (version : ℕ) (rest : List ℕ)
         → module_name version rest ≡ Some (name.now, tail.now)
-        → IfOk result (λ item. HasTail version rest item) }
+        → IfOk result (HasTail version rest) }
 {
     let counted = count_fields(tail);
     if counted.count == 0 && matches!(name, [b'-']) {

@@ -5,14 +5,12 @@
 
 ghost use Rattle.std.specs.Prelude.{◌≡◌, ℕ, ◌^◌, ◌<◌, ◌≤◌, List, [], ◌∷◌, ◌++◌, length, Ok, Err, OnOk, OnErr};
 ghost use Rattle.hp_num.specs.Hexadecimal.{hexadecimal};
-ghost use Rattle.ht_lines.specs.declared.item.Form.{Form};
-ghost use Rattle.ht_lines.specs.Content.{Content, module_line};
 ghost use Rattle.hp_num.specs.Extends.{Extends};
 ghost use Rattle.ht_lines.specs.Fields.{numbers};
 ghost use Rattle.ht_lines.specs.ItemContent.{content};
 ghost use Rattle.ht_lines.specs.OneLine.{HasOneLineTexts, IsOneLine};
-ghost use Rattle.ht_lines.specs.Reading.{reading};
-ghost use Rattle.ht_lines.specs.Written.{IsWritable, spelled, spelled_text, written};
+ghost use Rattle.ht_lines.specs.OneReading.{ReadsBack};
+ghost use Rattle.ht_lines.specs.Written.{instr_text, module_text, spelled, spelled_text, text_line, written};
 
 use crate::fields::next_number;
 use crate::item::Item;
@@ -31,8 +29,7 @@ pub fn put_item(version: u8, item: &Item, out: &mut Vec<u8>) -> Result<(), NoMem
     ensures unchanged { OnErr result (out.new.items ≡ out.old.items) }
     ensures one_line { HasOneLineTexts (content item.now)
         → IsOneLine (written version (content item.now)) }
-    ensures reads_back { (form : Form) (said : Content) → IsWritable form version said
-        → reading form version (written version said) ≡ Ok said }
+    ensures reads_back { ReadsBack version }
 {
     hexadecimal_texts();
     let start = out.len();
@@ -93,8 +90,7 @@ fn put_module(
     tail: &[u8],
 ) -> Result<(), NoMemory>
     ensures appended { OnOk result
-        (out.new.items ≡ out.old.items
-        ++ (written version (module_line name.now start (numbers tail.now)) ++ (10 ∷ []))) }
+        (out.new.items ≡ out.old.items ++ module_text version name.now start tail.now) }
     ensures kept { Extends out.old.items out.new.items }
 {
     put_kind_text(out, b"m ", version, name)?;
@@ -110,8 +106,7 @@ fn put_instruction(
     tail: &[u8],
 ) -> Result<(), NoMemory>
     ensures appended { OnOk result
-        (out.new.items ≡ out.old.items
-        ++ ((105 ∷ spelled (ip ∷ module_string ∷ numbers tail.now)) ++ (10 ∷ []))) }
+        (out.new.items ≡ out.old.items ++ instr_text ip module_string tail.now) }
     ensures kept { Extends out.old.items out.new.items }
 {
     put_bytes(out, b"i")?;
@@ -133,8 +128,7 @@ fn put_comment(out: &mut Vec<u8>, text: &[u8]) -> Result<(), NoMemory>
 /// Appends a line of a kind and its blank, and a text.
 fn put_text_line(out: &mut Vec<u8>, kind: &[u8], version: u8, text: &[u8]) -> Result<(), NoMemory>
     ensures appended { OnOk result
-        (out.new.items ≡ out.old.items
-        ++ ((kind.now ++ spelled_text version text.now) ++ (10 ∷ []))) }
+        (out.new.items ≡ out.old.items ++ text_line kind.now version text.now) }
     ensures kept { Extends out.old.items out.new.items }
 {
     put_kind_text(out, kind, version, text)?;
