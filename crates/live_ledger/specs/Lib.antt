@@ -8,6 +8,7 @@ pub mod Faults
 pub mod FaultText
 pub mod LedgerState
 pub mod TotalsState
+pub mod TotalsOf
 pub mod Possible
 pub mod StandsFor
 pub mod Sums

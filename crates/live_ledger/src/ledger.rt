@@ -5,7 +5,7 @@ ghost use Rattle.std.specs.Result.{result_err};
 ghost use Rattle.live_ledger.specs.Changes.{Allocates, Frees};
 ghost use Rattle.live_ledger.specs.Faults.{fault_at};
 ghost use Rattle.live_ledger.specs.ForEvents.{GoesOn, GoesOnWith, TellsFault};
-ghost use Rattle.live_ledger.specs.GrownLedger.{answered_info, one_info, with_stack};
+ghost use Rattle.live_ledger.specs.GrownLedger.{AddsInfo, answered_info, with_stack};
 ghost use Rattle.live_ledger.specs.InfoBlocks.{allocs_of};
 ghost use Rattle.live_ledger.specs.LedgerState.{IsHeld, figures_at, without_figures};
 ghost use Rattle.live_ledger.specs.Possible.{ArePossible};
@@ -65,8 +65,7 @@ impl Ledger {
     pub fn grow_stack(&mut self) -> Result<u32, NoMemory>
         requires { self.old.stacks < 2 ^ 32 - 1 }
         ensures number { IfOk result (λ number. number ≡ self.old.stacks) }
-        ensures grown { OnOk result
-            (self.new ≡ with_stack self.old) }
+        ensures grown { OnOk result (self.new ≡ with_stack self.old) }
         ensures figures { (stack : ℕ) → figures_at self.new stack ≡ figures_at self.old stack }
         ensures stands { GoesOn (StandsFor self.old) (StandsFor self.new) }
         ensures unchanged { OnErr result (self.new ≡ self.old) }
@@ -83,14 +82,7 @@ impl Ledger {
     pub fn grow_info(&mut self, stack: u32, size: u64) -> Result<u32, NoMemory>
         requires room { length self.old.infos < 2 ^ 32 - 1 }
         requires stack_held { stack < self.old.stacks }
-        ensures number { IfOk result (λ number. number ≡ length self.old.infos) }
-        ensures infos { OnOk result
-            (self.new.infos ≡ self.old.infos ++ one_info stack size) }
-        ensures stacks { self.new.stacks ≡ self.old.stacks }
-        ensures figures { self.new.figures ≡ self.old.figures }
-        ensures totals { self.new.totals ≡ self.old.totals }
-        ensures info_calls { (info : ℕ)
-            → slice_index self.new.info_calls info ≡ slice_index self.old.info_calls info }
+        ensures info { AddsInfo self.old self.new stack size result }
         ensures stands { GoesOn (StandsFor self.old) (StandsFor self.new) }
         ensures unchanged { OnErr result (self.new ≡ self.old) }
         ensures sound { IsSound self.new }

@@ -10,7 +10,8 @@ ghost use Rattle.live_ledger.specs.GrownLedger.{answered_info};
 ghost use Rattle.live_ledger.specs.InfoBlocks.{allocs_of};
 ghost use Rattle.live_ledger.specs.LedgerState.{IsHeld};
 ghost use Rattle.live_ledger.specs.Possible.{ArePossible};
-ghost use Rattle.live_ledger.specs.StandsFor.{AreTotalsOf, HasTotals};
+ghost use Rattle.live_ledger.specs.StandsFor.{AreTotalsOf};
+ghost use Rattle.live_ledger.specs.TotalsOf.{StandsForTotals};
 ghost use Rattle.live_ledger.specs.TotalsState.{HasInfo, IsKept, ledger_of, no_events, state_after, with_block, with_info, with_stack, without_block};
 
 use crate::event::{Event, EventFault};
@@ -64,7 +65,7 @@ impl TotalsLedger {
     /// A ledger of no events, which holds stack 0 and no info. It takes no memory.
     pub fn new(alloc: Global) -> TotalsLedger
         ensures value { result ≡ no_events }
-        ensures stands { HasTotals (ledger_of result) [] }
+        ensures stands { StandsForTotals result [] }
         ensures sound { IsKept result }
     {
         TotalsLedger {
@@ -79,7 +80,7 @@ impl TotalsLedger {
     pub fn grow_stack(&mut self)
         requires { self.old.stacks < 2 ^ 32 - 1 }
         ensures grown { self.new ≡ with_stack self.old }
-        ensures stands { GoesOn (HasTotals (ledger_of self.old)) (HasTotals (ledger_of self.new)) }
+        ensures stands { GoesOn (StandsForTotals self.old) (StandsForTotals self.new) }
         ensures sound { IsKept self.new }
     {
         self.stacks += 1;
@@ -92,7 +93,7 @@ impl TotalsLedger {
         requires stack_held { stack < self.old.stacks }
         ensures number { IfOk result (λ number. number ≡ length self.old.infos) }
         ensures grown { OnOk result (self.new ≡ with_info self.old stack size) }
-        ensures stands { GoesOn (HasTotals (ledger_of self.old)) (HasTotals (ledger_of self.new)) }
+        ensures stands { GoesOn (StandsForTotals self.old) (StandsForTotals self.new) }
         ensures unchanged { OnErr result (self.new ≡ self.old) }
         ensures sound { IsKept self.new }
     {
@@ -114,9 +115,8 @@ impl TotalsLedger {
     pub fn check(&self, event: Event) -> Result<(), EventFault>
         requires held { IsHeld (ledger_of self.now) event }
         ensures by_figures { result_err result ≡ fault_at (ledger_of self.now) event }
-        ensures fault { TellsFault (HasTotals (ledger_of self.now)) event result }
-        ensures possible { OnOk result
-            (GoesOnWith event (HasTotals (ledger_of self.now)) ArePossible) }
+        ensures fault { TellsFault (StandsForTotals self.now) event result }
+        ensures possible { OnOk result (GoesOnWith event (StandsForTotals self.now) ArePossible) }
         ensures sound { IsKept self.now }
     {
         match event {
@@ -146,9 +146,9 @@ impl TotalsLedger {
     pub fn apply(&mut self, event: Event) -> Result<(), EventFault>
         requires held { IsHeld (ledger_of self.old) event }
         requires count { (ledger_of self.old).totals.events < 2 ^ 32 }
-        ensures fault { TellsFault (HasTotals (ledger_of self.old)) event result }
+        ensures fault { TellsFault (StandsForTotals self.old) event result }
         ensures stands { OnOk result
-            (GoesOnWith event (HasTotals (ledger_of self.old)) (HasTotals (ledger_of self.new))) }
+            (GoesOnWith event (StandsForTotals self.old) (StandsForTotals self.new)) }
         ensures after { OnOk result (self.new ≡ state_after self.old event) }
         ensures infos { (ledger_of self.new).infos ≡ (ledger_of self.old).infos }
         ensures unchanged { OnErr result (self.new ≡ self.old) }
@@ -199,7 +199,7 @@ impl TotalsLedger {
     /// The figures of the whole trace.
     pub fn totals(&self) -> Totals
         ensures value { result ≡ (ledger_of self.now).totals }
-        ensures figures { GoesOn (HasTotals (ledger_of self.now)) (AreTotalsOf result) }
+        ensures figures { GoesOn (StandsForTotals self.now) (AreTotalsOf result) }
         ensures sound { IsKept self.now }
     {
         self.sums.totals()
@@ -209,7 +209,7 @@ impl TotalsLedger {
     pub fn info_calls(&self, info: u32) -> u64
         requires { info < length self.now.infos }
         ensures value { result ≡ slice_index (ledger_of self.now).info_calls info }
-        ensures calls { GoesOn (HasTotals (ledger_of self.now))
+        ensures calls { GoesOn (StandsForTotals self.now)
             (λ events. result ≡ allocs_of info events) }
         ensures within { result ≤ (ledger_of self.now).totals.calls }
     {
