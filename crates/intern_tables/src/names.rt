@@ -1,9 +1,8 @@
 //! The table of names: bytes to numbers, by a hashed look-up, and numbers to bytes.
 ghost use Rattle.std.specs.Prelude.{◌≡◌, ℕ, ◌+◌, ◌^◌, ◌<◌, ◌≤◌, ◌↔◌, List, [], ◌∷◌, ◌++◌, length, Some, Ok, Contains, IsSome, IfSome, IfNone, IfOk, OnOk, OnErr};
-ghost use Rattle.std.specs.Str.{bytes_eq};
 ghost use Rattle.intern_tables.specs.Numbers.{name_at, number_of};
 ghost use Rattle.intern_tables.specs.Distinct.{AreDistinct};
-ghost use Rattle.intern_tables.specs.WithoutRepeats.{without_repeats};
+ghost use Rattle.intern_tables.specs.Grown.{AreFirstOfMore, KeepsNames, KeepsNumbers, with_name};
 
 use hp_num::NoMemory;
 use indexmap::IndexSet;
@@ -47,7 +46,7 @@ impl Names {
         ensures present { IfSome (number_of self.old bytes.now)
             (λ n. (result ≡ Ok n) × (self.new ≡ self.old)) }
         ensures added { IfNone (number_of self.old bytes.now)
-            (OnOk result (self.new ≡ self.old ++ bytes.now ∷ [])) }
+            (OnOk result (self.new ≡ with_name self.old bytes.now)) }
         ensures unchanged { OnErr result (self.new ≡ self.old) }
 
         // The number.
@@ -56,16 +55,13 @@ impl Names {
         ensures within { IfOk result (λ n. (1 ≤ n) × (n ≤ length self.new)) }
 
         // The names.
-        ensures names_stay { (n : ℕ) → n ≤ length self.old
-            → name_at self.new n ≡ name_at self.old n }
-        ensures numbers_stay { (name : List ℕ) (n : ℕ) → number_of self.old name ≡ Some n
-            → number_of self.new name ≡ Some n }
+        ensures names_stay { KeepsNames self.old self.new }
+        ensures numbers_stay { KeepsNumbers self.old self.new }
         ensures none_lost { length self.old ≤ length self.new }
         ensures one_more { length self.new ≤ length self.old + 1 }
         ensures distinct { AreDistinct self.new }
         ensures without_repeats { OnOk result
-            ((came : List (List ℕ)) → self.old ≡ without_repeats bytes_eq came
-            → self.new ≡ without_repeats bytes_eq (came ++ bytes.now ∷ [])) }
+            (AreFirstOfMore self.old self.new bytes.now) }
     {
         if let Some(number) = self.find(bytes) {
             return Ok(number);
