@@ -2,6 +2,7 @@ pub mod Mark
 pub mod Saved
 pub mod PeakState
 pub mod Peak
+pub mod PeakCalls
 pub mod Kept
 pub mod PeakTotals
 pub mod FirstGreatest

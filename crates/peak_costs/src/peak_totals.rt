@@ -1,10 +1,10 @@
 //! The totals of a heap trace with their peak, and no figure of a stack.
 ghost use Rattle.std.specs.Prelude.{◌≡◌, ℕ, ◌+◌, ◌-◌, ◌^◌, ◌<◌, ◌≤◌, [], ◌++◌, length, IfOk, OnOk, OnErr};
 ghost use Rattle.live_ledger.specs.ForEvents.{GoesOn, GoesOnWith, TellsFault};
-ghost use Rattle.live_ledger.specs.GrownLedger.{one_info};
 ghost use Rattle.live_ledger.specs.LedgerState.{IsHeld};
 ghost use Rattle.live_ledger.specs.TotalsState.{ledger_of};
 ghost use Rattle.peak_costs.specs.Peak.{IsPeak, total_after};
+ghost use Rattle.peak_costs.specs.PeakCalls.{AddsEventAlone, AddsInfoAlone};
 ghost use Rattle.peak_costs.specs.PeakTotals.{StandsFor, with_stack};
 
 use crate::mark::Mark;
@@ -56,11 +56,7 @@ impl PeakTotals {
     pub fn grow_info(&mut self, stack: u32, size: u64) -> Result<u32, NoMemory>
         requires room { length self.old.ledger.infos < 2 ^ 32 - 1 }
         requires stack_held { stack < self.old.ledger.stacks }
-        ensures number { IfOk result (λ number. number ≡ length self.old.ledger.infos) }
-        ensures infos { OnOk result
-            (self.new.ledger.infos ≡ self.old.ledger.infos ++ one_info stack size) }
-        ensures stacks { self.new.ledger.stacks ≡ self.old.ledger.stacks }
-        ensures totals { self.new.ledger.totals ≡ self.old.ledger.totals }
+        ensures info { AddsInfoAlone self.old.ledger self.new.ledger stack size result }
         ensures stands { GoesOn (StandsFor self.old) (StandsFor self.new) }
         ensures unchanged { OnErr result (self.new ≡ self.old) }
     {
@@ -79,10 +75,7 @@ impl PeakTotals {
         ensures fault { TellsFault (StandsFor self.old) event result }
         ensures stands { OnOk result
             (GoesOnWith event (StandsFor self.old) (StandsFor self.new)) }
-        ensures at_most_one_more { self.new.ledger.totals.events
-            ≤ self.old.ledger.totals.events + 1 }
-        ensures stacks { self.new.ledger.stacks ≡ self.old.ledger.stacks }
-        ensures infos { self.new.ledger.infos ≡ self.old.ledger.infos }
+        ensures ledger { AddsEventAlone self.old.ledger self.new.ledger }
         ensures unchanged { OnErr result (self.new ≡ self.old) }
     {
         self.ledger.apply(event)?;

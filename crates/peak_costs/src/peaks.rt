@@ -1,15 +1,12 @@
 //! Peaks: a ledger, and beside it the peak of its total with each stack's share, which no new peak copies.
 ghost use Rattle.std.specs.Prelude.{◌≡◌, ℕ, ◌+◌, ◌-◌, ◌^◌, ◌<◌, ◌≤◌, [], ◌++◌, length, slice_index, IfOk, OnOk, OnErr};
-ghost use Rattle.std.specs.Result.{result_err};
-ghost use Rattle.live_ledger.specs.Changes.{Changes};
 ghost use Rattle.live_ledger.specs.Events.{IsTick};
-ghost use Rattle.live_ledger.specs.Faults.{fault_at};
-ghost use Rattle.live_ledger.specs.ForEvents.{GoesOn, GoesOnWith, TellsFault};
-ghost use Rattle.live_ledger.specs.GrownLedger.{one_info};
+ghost use Rattle.live_ledger.specs.ForEvents.{GoesOn};
 ghost use Rattle.live_ledger.specs.LedgerState.{IsHeld};
 ghost use Rattle.live_ledger.specs.InStack.{blocks_in, live_in};
 ghost use Rattle.peak_costs.specs.IsShare.{IsShare};
 ghost use Rattle.peak_costs.specs.Peak.{IsIn, IsPeak, StandsFor, total_after};
+ghost use Rattle.peak_costs.specs.PeakCalls.{AddsInfoAlone, TakesEvent};
 ghost use Rattle.peak_costs.specs.PeakState.{IsSound, with_stack};
 
 #[cfg(test)]
@@ -92,11 +89,7 @@ impl Peaks {
     pub fn grow_info(&mut self, stack: u32, size: u64) -> Result<u32, NoMemory>
         requires room { length self.old.ledger.infos < 2 ^ 32 - 1 }
         requires stack_held { stack < self.old.ledger.stacks }
-        ensures number { IfOk result (λ number. number ≡ length self.old.ledger.infos) }
-        ensures infos { OnOk result
-            (self.new.ledger.infos ≡ self.old.ledger.infos ++ one_info stack size) }
-        ensures stacks { self.new.ledger.stacks ≡ self.old.ledger.stacks }
-        ensures totals { self.new.ledger.totals ≡ self.old.ledger.totals }
+        ensures info { AddsInfoAlone self.old.ledger self.new.ledger stack size result }
         ensures stands { GoesOn (StandsFor self.old) (StandsFor self.new) }
         ensures unchanged { OnErr result (self.new ≡ self.old) }
     {
@@ -116,17 +109,8 @@ impl Peaks {
     ) -> Result<(), EventFault>
         requires held { IsHeld self.old.ledger event }
         requires count { self.old.ledger.totals.events < 2 ^ 32 }
-        ensures by_figures { result_err result ≡ fault_at self.old.ledger event }
-        ensures fault { TellsFault (StandsFor self.old) event result }
-        ensures stands { OnOk result
-            (GoesOnWith event (StandsFor self.old) (StandsFor self.new)) }
-        ensures changes { OnOk result (Changes self.old.ledger self.new.ledger event) }
-        ensures at_most_one_more { self.new.ledger.totals.events
-            ≤ self.old.ledger.totals.events + 1 }
-        ensures stacks { self.new.ledger.stacks ≡ self.old.ledger.stacks }
-        ensures infos { self.new.ledger.infos ≡ self.old.ledger.infos }
+        ensures takes { TakesEvent self.old self.new event result }
         ensures tick { IsTick event → self.new ≡ self.old }
-        ensures unchanged { OnErr result (self.new ≡ self.old) }
         ensures steps { steps.new ≤ steps.old + 6 }
         ensures sound { IsSound self.new }
     {
@@ -151,16 +135,7 @@ impl Peaks {
         requires held { IsHeld self.old.ledger event }
         requires count { self.old.ledger.totals.events < 2 ^ 32 }
         requires own { IsIn stack event }
-        ensures by_figures { result_err result ≡ fault_at self.old.ledger event }
-        ensures fault { TellsFault (StandsFor self.old) event result }
-        ensures stands { OnOk result
-            (GoesOnWith event (StandsFor self.old) (StandsFor self.new)) }
-        ensures changes { OnOk result (Changes self.old.ledger self.new.ledger event) }
-        ensures at_most_one_more { self.new.ledger.totals.events
-            ≤ self.old.ledger.totals.events + 1 }
-        ensures stacks { self.new.ledger.stacks ≡ self.old.ledger.stacks }
-        ensures infos { self.new.ledger.infos ≡ self.old.ledger.infos }
-        ensures unchanged { OnErr result (self.new ≡ self.old) }
+        ensures takes { TakesEvent self.old self.new event result }
         ensures steps { steps.new ≤ steps.old + 6 }
         ensures sound { IsSound self.new }
     {

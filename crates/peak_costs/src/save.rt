@@ -22,9 +22,8 @@ pub fn save<L: Ledger>(
     figures: Figures,
     steps: &mut Steps<L>,
 )
-    requires saved { stack < length saved.old }
-    requires blocks { stack < length blocks.old }
-    requires stamps { stack < length stamps.old }
+    requires held { (stack < length saved.old) × (stack < length blocks.old)
+        × (stack < length stamps.old) }
     ensures saved { saved.new ≡ slice_set saved.old stack figures.live }
     ensures blocks { blocks.new ≡ slice_set blocks.old stack figures.blocks }
     ensures stamps { stamps.new ≡ slice_set stamps.old stack counter }

@@ -1,4 +1,4 @@
-use Rattle.std.proofs.Common.{sym, ◌∙◌}
+use Rattle.std.proofs.Common.{sym, rules, ◌∙◌}
 use Rattle.peak_costs.proofs.Keeping.{freed-within, kept-moved, marked-moved, sound-of}
 use Rattle.peak_costs.proofs.PeakLemmas.{stands-event}
 use Rattle.peak_costs.proofs.peaks.Peaks.take_event.Goals as goal
@@ -23,14 +23,23 @@ invariant_of-self-then-has g c =
     c.in_ok-apply.ensures.taken.changes c.requires.own held in
     rw c.follow.ensures (rw is at moved)
 
-pub returns-then-has-clause-stands : goal.returns-then-has-clause-stands
-returns-then-has-clause-stands g c =
+pub returns-then-has-clause-takes : goal.returns-then-has-clause-takes
+returns-then-has-clause-takes g c =
     let held = rw (← c.self.view_is) at c.requires.held in
     let is = sym c.has.ensures ∙ c.if-has.true in
-    rw (← c.self.view_is, c.follow.ensures)
-    (λ events stands. rw is at
-    (stands-event _ _ _ _ _ _ c.args.stack events c.args.event c.self.invariant.kept c.in_ok-apply.ensures.sound
-    c.in_ok-apply.ensures.taken.changes c.requires.own held stands (c.in_ok-apply.ensures.taken.stands events stands.ledger)))
+    record {
+      by_figures = search rules;
+      fault = search rules;
+      stands =
+          rw (← c.self.view_is, c.follow.ensures)
+          (λ events stands. rw is at
+          (stands-event _ _ _ _ _ _ c.args.stack events c.args.event c.self.invariant.kept c.in_ok-apply.ensures.sound
+          c.in_ok-apply.ensures.taken.changes c.requires.own held stands
+          (c.in_ok-apply.ensures.taken.stands events stands.ledger)));
+      changes = search rules;
+      ledger = record { at_most_one_more = search rules; stacks = search rules; infos = search rules };
+      unchanged = search rules;
+    }
 
 pub returns-then-has-clause-sound : goal.returns-then-has-clause-sound
 returns-then-has-clause-sound g c =
@@ -61,22 +70,30 @@ invariant_of-self-2 g c =
       c.stack-before.ensures.value,
     ) (rw is at moved)
 
-pub returns-clause-stands : goal.returns-clause-stands
-returns-clause-stands g c =
+pub returns-clause-takes : goal.returns-clause-takes
+returns-clause-takes g c =
     let held = rw (← c.self.view_is) at c.requires.held in
     let is = sym c.has.ensures ∙ c.if-has.false in
-    rw (
-      ← c.self.view_is,
-      c.save.ensures.saved,
-      c.save.ensures.blocks,
-      c.save.ensures.stamps,
-      c.follow-2.ensures,
-      c.stack-before.ensures.value,
-    )
-    (λ events stands.
-    rw is at (stands-event _ _ _ _ _ _ c.args.stack events c.args.event c.self.invariant.kept
-    c.in_ok-apply-2.ensures.sound c.in_ok-apply-2.ensures.taken.changes c.requires.own held stands
-    (c.in_ok-apply-2.ensures.taken.stands events stands.ledger)))
+    record {
+      by_figures = search rules;
+      fault = search rules;
+      stands =
+          rw (
+            ← c.self.view_is,
+            c.save.ensures.saved,
+            c.save.ensures.blocks,
+            c.save.ensures.stamps,
+            c.follow-2.ensures,
+            c.stack-before.ensures.value,
+          )
+          (λ events stands.
+          rw is at (stands-event _ _ _ _ _ _ c.args.stack events c.args.event c.self.invariant.kept
+          c.in_ok-apply-2.ensures.sound c.in_ok-apply-2.ensures.taken.changes c.requires.own held stands
+          (c.in_ok-apply-2.ensures.taken.stands events stands.ledger)));
+      changes = search rules;
+      ledger = record { at_most_one_more = search rules; stacks = search rules; infos = search rules };
+      unchanged = search rules;
+    }
 
 pub returns-clause-sound : goal.returns-clause-sound
 returns-clause-sound g c =
