@@ -8,10 +8,10 @@ pub invariant_of-self : goal.invariant_of-self
 invariant_of-self c =
     record {
       kept =
-          kept-infos _ _ _ _ _ _ c.self.invariant.kept c.grow_info.ensures.sound c.grow_info.ensures.stacks
-          c.grow_info.ensures.figures c.grow_info.ensures.totals;
+          kept-infos _ _ _ _ _ _ c.self.invariant.kept c.grow_info.ensures.sound c.grow_info.ensures.info.stacks
+          c.grow_info.ensures.info.figures c.grow_info.ensures.info.totals;
       live_within =
-          subst (λ (totals : Totals). totals.live ≤ c.self.inside.mark.total) (sym c.grow_info.ensures.totals)
+          subst (λ (totals : Totals). totals.live ≤ c.self.inside.mark.total) (sym c.grow_info.ensures.info.totals)
           c.self.invariant.live_within;
     }
 
@@ -19,5 +19,5 @@ pub returns-clause-stands : goal.returns-clause-stands
 returns-clause-stands c =
     rw (← c.self.view_is)
     (λ events stands. stands-infos c.self.inside.ledger c.grow_info.new.self c.self.inside.saved c.self.inside.blocks
-    c.self.inside.stamps c.self.inside.mark events c.grow_info.ensures.stacks c.grow_info.ensures.figures
+    c.self.inside.stamps c.self.inside.mark events c.grow_info.ensures.info.stacks c.grow_info.ensures.info.figures
     (c.grow_info.ensures.stands events stands.ledger) stands)
