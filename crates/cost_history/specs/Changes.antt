@@ -2,7 +2,7 @@
 -- change up to there says, and 0 where none does; changes are parted where between two of one stack
 -- a kept place stands.
 use Rattle.std.specs.Prelude.{◌≡◌, ℕ, ◌<◌, ◌≤◌, ◌==◌, ◌&&◌, ◌⊎◌, nat_le, Bool, if◌then◌else◌, List, [], ◌∷◌, AllPairs}
-use Rattle.std.specs.Prelude.{Contains}
+use Rattle.std.specs.Prelude.{Contains, length}
 use Rattle.cost_history.specs.declared.change.Change.{Change}
 
 -- whether the change is of the stack, and is made at the place or before
@@ -40,3 +40,12 @@ pub record IsParting (kept : List ℕ) (earlier later : Change) : Type 0 where
 pub record AreParted (kept : List ℕ) (changes : List Change) : Type 0 where
   pub each : AllPairs (λ earlier later. earlier.stack ≡ later.stack → IsParting kept earlier later)
       changes
+
+-- stacks from this number on cost nothing
+abbrev pub CostNothingFrom : ℕ → List Change → Type 0
+CostNothingFrom stacks changes = (place stack : ℕ) → stacks ≤ stack
+    → cost_at changes place stack ≡ 0
+
+-- the changes are of stacks that have cells, and none is behind the last place
+abbrev pub AreOfCells : List ℕ → List Change → ℕ → Type 0
+AreOfCells cells changes last = IsBetween (length cells) 0 changes last

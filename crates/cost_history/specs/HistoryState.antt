@@ -43,3 +43,7 @@ pub record TellsNow (state : HistoryState) (costs : ℕ → ℕ) : Type 0 where
 pub record AreSaid (answers : ℕ → ℕ → Type 0) (stacks : ℕ) (costs : ℕ → ℕ) : Type 0 where
   pub said : (stack says : ℕ) → stack < stacks → answers stack says → says ≡ costs stack
   pub none : (stack : ℕ) → stacks ≤ stack → costs stack ≡ 0
+
+-- a closure may be called on each of so many stacks
+abbrev pub AreCallable : (ℕ → Type 0) → ℕ → Type 0
+AreCallable may_call stacks = (stack : ℕ) → stack < stacks → may_call stack

@@ -40,3 +40,7 @@ marked_with state stack =
     if nat_lt stack state.room
     then record state { marks = with_mark state.marks stack }
     else record state { marks = record state.marks { all = true } }
+
+-- all stacks are marked
+abbrev pub with_all : MarksState → MarksState
+with_all marks = record marks { all = true }

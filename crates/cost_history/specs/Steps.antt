@@ -32,6 +32,10 @@ TellsFrom answers stacks place old new = (costs : ℕ → ℕ) → AreSaid answe
 abbrev pub GainsMarked : ℕ → MarksState → List Change → List Change → Type 0
 GainsMarked stacks marks old new = length new ≤ length old + length (candidates marks stacks)
 
+-- the same of the changes of a history
+abbrev pub GainsOfMarked : ℕ → HistoryState → HistoryState → Type 0
+GainsOfMarked stacks old new = GainsMarked stacks old.marks old.changes new.changes
+
 -- changes to what the closure says, of the stacks that may be marked
 abbrev pub GainsSaid : (ℕ → ℕ → Type 0) → ℕ → ℕ → MarksState → List Change → List Change → Type 0
 GainsSaid answers stacks place marks old new = (costs : ℕ → ℕ)
@@ -56,3 +60,11 @@ with_stacks old count = record old { history = record old.history { stacks = cou
 abbrev pub with_left : RoomyHistory → List Change → RoomyHistory
 with_left old list = record old
     { history = record old.history { changes = list; left = length list } }
+
+-- the history with these marks
+abbrev pub with_marks : RoomyHistory → MarksState → RoomyHistory
+with_marks old marks = record old { history = record old.history { marks = marks } }
+
+-- each place that is asked of a history sees the same of another
+abbrev pub SeesSameOf : List ℕ → HistoryState → HistoryState → Type 0
+SeesSameOf kept old new = SeesSame kept old.last old.changes new.changes

@@ -1,9 +1,9 @@
 //! A history of what stacks cost: the marks of those that have changed, and the changes at the places that were kept.
-ghost use Rattle.std.specs.Prelude.{◌≡◌, ℕ, ◌+◌, ◌-◌, ◌^◌, ◌<◌, ◌≤◌, max, min, [], ◌∷◌, true, false, length, OnOk, OnErr};
-ghost use Rattle.cost_history.specs.Changes.{AreParted, cost_at};
-ghost use Rattle.cost_history.specs.Marks.{candidates, is_marked, no_marks, with_mark};
-ghost use Rattle.cost_history.specs.HistoryState.{IsRoomy, RoomyHistory, TellsNow, no_history};
-ghost use Rattle.cost_history.specs.Steps.{GainsMarked, GainsSaid, KeepsBefore, KeepsOthers, SeesSame, StayBetween, TellsChange, TellsFrom, with_left, with_stacks};
+ghost use Rattle.std.specs.Prelude.{◌≡◌, ℕ, ◌+◌, ◌-◌, ◌^◌, ◌<◌, ◌≤◌, max, min, true, false, length, OnOk, OnErr};
+ghost use Rattle.cost_history.specs.Changes.{AreParted, CostNothingFrom};
+ghost use Rattle.cost_history.specs.Marks.{is_marked, no_marks, with_all, with_mark};
+ghost use Rattle.cost_history.specs.HistoryState.{AreCallable, IsRoomy, RoomyHistory, TellsNow, no_history};
+ghost use Rattle.cost_history.specs.Steps.{GainsMarked, GainsOfMarked, GainsSaid, KeepsBefore, KeepsOthers, SeesSameOf, StayBetween, TellsChange, TellsFrom, with_left, with_marks, with_stacks};
 
 use crate::change::Change;
 use crate::marks::Marks;
@@ -77,12 +77,10 @@ impl CostHistory {
             → KeepsOthers self.old.history.marks self.new.history.marks stack }
         ensures listed { stack < self.old.room →
             self.new.history.marks ≡ with_mark self.old.history.marks stack }
-        ensures full { self.old.room ≤ stack →
-            self.new.history.marks ≡ record self.old.history.marks { all = true } }
+        ensures full { self.old.room ≤ stack
+            → self.new.history.marks ≡ with_all self.old.history.marks }
         ensures marked { is_marked self.new.history.marks stack ≡ true }
-        ensures rest { self.new
-            ≡ record self.old
-            { history = record self.old.history { marks = self.new.history.marks } } }
+        ensures rest { self.new ≡ with_marks self.old self.new.history.marks }
         ensures tells { TellsChange self.old.history self.new.history stack }
     {
         self.marks.mark(stack);
@@ -98,13 +96,12 @@ impl CostHistory {
     ) -> Result<(), NoMemory>
         requires ascends { self.old.history.last ≤ place }
         requires most { place ≤ 2 ^ 62 }
-        requires callable { (stack : ℕ) → stack < stacks → F.pre cost.now stack }
+        requires callable { AreCallable (F.pre cost.now) stacks }
         ensures before { OnOk result
             (KeepsBefore (F.post cost.now) stacks place self.old.history self.new.history) }
         ensures here { OnOk result
             (TellsFrom (F.post cost.now) stacks place self.old.history self.new.history) }
-        ensures most { OnOk result (GainsMarked stacks self.old.history.marks
-            self.old.history.changes self.new.history.changes) }
+        ensures most { OnOk result (GainsOfMarked stacks self.old.history self.new.history) }
         ensures marks { OnOk result (self.new.history.marks ≡ no_marks) }
         ensures left { OnOk result (self.new.history.left ≡ self.old.history.left) }
         ensures last { OnOk result (self.new.history.last ≡ place) }
@@ -136,8 +133,7 @@ impl CostHistory {
     /// Takes out the changes that no kept place sees, nor the present one. The places come in any order, and are sorted. It
     /// takes no memory.
     pub fn thin(&mut self, kept: &mut Vec<u64>)
-        ensures costs { SeesSame kept.old.items self.old.history.last self.old.history.changes
-            self.new.history.changes }
+        ensures costs { SeesSameOf kept.old.items self.old.history self.new.history }
         ensures parted { AreParted kept.old.items self.new.history.changes }
         ensures rest { self.new ≡ with_left self.old self.new.history.changes }
         ensures tells { (costs : ℕ → ℕ) → TellsNow self.old.history costs
@@ -150,8 +146,7 @@ impl CostHistory {
     /// The replay of the history, before its first place. It takes no memory.
     pub fn into_replay(self) -> Replay
         ensures changes { result.changes ≡ self.history.changes }
-        ensures none { (place stack : ℕ) →
-            self.history.stacks ≤ stack → cost_at self.history.changes place stack ≡ 0 }
+        ensures none { CostNothingFrom self.history.stacks self.history.changes }
     {
         let CostHistory { changes, cells, .. } = self;
         Replay::new(changes, cells)
@@ -178,7 +173,7 @@ fn push_changes<F: Fn(u32) -> u64>(
     place: u64,
     cost: &F,
 ) -> Result<(), NoMemory>
-    requires callable { (stack : ℕ) → stack < stacks → F.pre cost.now stack }
+    requires callable { AreCallable (F.pre cost.now) stacks }
     ensures pushed { OnOk result (GainsSaid (F.post cost.now) stacks place marks.now.marks
         changes.old.items changes.new.items) }
     ensures most { OnOk result

@@ -1,7 +1,7 @@
 //! Thinning: the changes that no kept place can see are taken out.
-ghost use Rattle.std.specs.Prelude.{◌≡◌, ◌⊎◌, ℕ, ◌+◌, ◌-◌, ◌^◌, ◌<◌, ◌≤◌, Contains, List, [], ◌∷◌, ◌++◌, length, take, drop, slice_index};
-ghost use Rattle.cost_history.specs.Changes.{AreParted, IsAsked, IsBetween};
-ghost use Rattle.cost_history.specs.Seen.{AreAscending, AreFirst, AreSeen};
+ghost use Rattle.std.specs.Prelude.{◌≡◌, ◌⊎◌, ℕ, ◌^◌, ◌≤◌, Contains, [], length, drop};
+ghost use Rattle.cost_history.specs.Changes.{AreOfCells, AreParted, IsAsked};
+ghost use Rattle.cost_history.specs.Seen.{AreAscending, AreFrom, AreSeen, AreSifted, IsFirstFrom};
 ghost use Rattle.cost_history.specs.Steps.{SeesSame};
 
 use crate::change::Change;
@@ -12,9 +12,9 @@ const UNSEEN: u64 = u64::MAX;
 /// Takes out the changes that are made good before the next kept place, and, behind the last of these, before the last
 /// change. Each kept place, and each place behind all changes, sees the same costs. It takes no memory.
 pub(crate) fn thin(changes: &mut Vec<Change>, seen: &mut Vec<u64>, kept: &mut Vec<u64>, last: u64)
-    requires between { IsBetween (length seen.old.items) 0 changes.old.items last }
+    requires between { AreOfCells seen.old.items changes.old.items last }
     requires last { last ≤ 2 ^ 62 }
-    ensures between { IsBetween (length seen.new.items) 0 changes.new.items last }
+    ensures between { AreOfCells seen.new.items changes.new.items last }
     ensures seen { length seen.new.items ≡ length seen.old.items }
     ensures costs { SeesSame kept.old.items last changes.old.items changes.new.items }
     ensures parted { AreParted kept.old.items changes.new.items }
@@ -37,15 +37,13 @@ fn forget(seen: &mut Vec<u64>)
 
 /// Moves the changes that stay to the end, and answers where they begin.
 fn sift(changes: &mut Vec<Change>, seen: &mut Vec<u64>, kept: &[u64], last: u64) -> usize
-    requires between { IsBetween (length seen.old.items) 0 changes.old.items last }
+    requires between { AreOfCells seen.old.items changes.old.items last }
     requires last { last ≤ 2 ^ 62 }
     requires ascending { AreAscending kept.now }
     requires unseen { AreSeen seen.old.items [] }
     ensures within { result ≤ length changes.new.items }
-    ensures between { IsBetween (length seen.new.items) 0 (drop result changes.new.items) last }
-    ensures seen { length seen.new.items ≡ length seen.old.items }
-    ensures costs { SeesSame kept.now last changes.old.items (drop result changes.new.items) }
-    ensures parted { AreParted kept.now (drop result changes.new.items) }
+    ensures sifted { AreSifted kept.now last changes.old.items seen.old.items seen.new.items
+        (drop result changes.new.items) }
 {
     let mut left = changes.len();
     let mut next = kept.len();
@@ -67,10 +65,9 @@ fn sift(changes: &mut Vec<Change>, seen: &mut Vec<u64>, kept: &[u64], last: u64)
 /// How many of the first so many kept places are below the place, which those behind them are not.
 fn kept_from(kept: &[u64], mut next: usize, place: u64) -> usize
     requires within { next ≤ length kept.now }
-    requires ahead { next < length kept.now → place ≤ slice_index kept.now next }
+    requires ahead { AreFrom kept.now next place }
     ensures most { result ≤ next }
-    ensures below { 0 < result → slice_index kept.now (result - 1) < place }
-    ensures ahead { result < length kept.now → place ≤ slice_index kept.now result }
+    ensures first { IsFirstFrom kept.now result place }
 {
     while next > 0 && kept[next - 1] >= place {
         next -= 1;
@@ -81,9 +78,7 @@ fn kept_from(kept: &[u64], mut next: usize, place: u64) -> usize
 /// The kept place at `next`, which is the first from `place` on; where there is none, or it is behind the last place of
 /// all, that one.
 fn until(kept: &[u64], next: usize, place: u64, last: u64) -> u64
-    requires next { next ≤ length kept.now }
-    requires below { 0 < next → slice_index kept.now (next - 1) < place }
-    requires ahead { next < length kept.now → place ≤ slice_index kept.now next }
+    requires first { IsFirstFrom kept.now next place }
     requires ascending { AreAscending kept.now }
     ensures asked { (seer : ℕ) → IsAsked kept.now last seer → place ≤ seer → result ≤ seer }
     ensures most { result ≤ last }

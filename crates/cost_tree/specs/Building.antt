@@ -1,13 +1,14 @@
 -- What is kept of a tree while it grows along a shape.
 use Rattle.std.specs.Prelude.{◌≡◌, ℕ, ◌+◌, ◌-◌, ◌<◌, ◌≤◌, All, List, [], ◌∷◌, ◌++◌, length, map, replicate, take, Some}
-use Rattle.std.specs.Prelude.{slice_get, slice_index, slice_set}
+use Rattle.std.specs.Prelude.{slice_get, slice_index, slice_set, sum_by, ◌*◌}
 use Rattle.cost_tree.specs.declared.branches.Branches.{Branches}
 use Rattle.cost_tree.specs.declared.edge.Edge.{Edge}
 use Rattle.cost_tree.specs.declared.node.CostNode.{CostNode}
 use Rattle.cost_tree.specs.Costed.{Costed}
-use Rattle.cost_tree.specs.Growth.{AreBranches, IsGrown}
+use Rattle.cost_tree.specs.Growth.{AreBranches, IsGrown, weight}
 use Rattle.cost_tree.specs.Shapes.{list_at}
 use Rattle.cost_tree.specs.Texts.{AreNames, fronts_of, texts_of}
+use Rattle.cost_tree.specs.Children.{AreBehindParents}
 
 -- the lists are of the lengths that they should have, and their numbers are of nodes that are held
 pub record IsBuilt (shape : List Edge) (tree : Branches) : Type 0 where
@@ -16,8 +17,7 @@ pub record IsBuilt (shape : List Edge) (tree : Branches) : Type 0 where
   pub numbered_count : length tree.numbered.items ≡ length shape + 1
   pub numbers : All (λ number. number ≤ length tree.nodes.items) tree.numbered.items
   pub root : slice_index tree.numbered.items 0 ≡ 1
-  pub lower : (n : ℕ) (node : CostNode) → 0 < n → slice_get tree.nodes.items n ≡ Some node
-      → node.parent < n
+  pub lower : AreBehindParents tree.nodes.items
 
 -- node 0 alone, along a shape with so many edges
 pub record IsStarted (edges : ℕ) (tree : Branches) : Type 0 where
@@ -92,3 +92,16 @@ GrowsBy shape end list cost depth old new =
     → IsGrowth names shape old before before depth
     → IsGrowth names shape new (with_stack before (texts_of names (list_at shape end)) cost)
     (with_stack before (texts_of names (list_at shape end)) cost) depth
+
+-- it is built as before, with the same figures
+pub record StaysBuilt (shape : List Edge) (old new : Branches) : Type 0 where
+  pub built : IsBuilt shape new
+  pub weight : sum_by weight new.nodes.items ≡ sum_by weight old.nodes.items
+
+-- a list that ends at a node and costs something is added: the tree is built, its figures are up to
+-- three times the cost more, and it is that of the stacks before and this one
+pub record AddsList (shape : List Edge) (end list cost depth : ℕ) (old new : Branches) : Type
+    0 where
+  pub built : IsBuilt shape new
+  pub weight : sum_by weight new.nodes.items ≤ sum_by weight old.nodes.items + 3 * cost
+  pub grown : GrowsBy shape end list cost depth old new

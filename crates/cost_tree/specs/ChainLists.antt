@@ -1,6 +1,7 @@
 -- How lists that go on with earlier ones are kept: the own numbers of all, and where those of each
 -- stand among them, for private clauses.
 use Rattle.std.specs.Prelude.{◌≡◌, ℕ, ◌^◌, ◌<◌, ◌≤◌, List, [], ◌∷◌, ◌++◌, fold, length, take, IfSome, Some, slice_get}
+use Rattle.std.specs.Prelude.{slice_index_or}
 use Rattle.std.specs.List.{between}
 use Rattle.cost_tree.specs.declared.chain.Chain.{Chain}
 use Rattle.cost_tree.specs.Following.{following}
@@ -18,6 +19,11 @@ chain_list numbers lists chain =
 unfoldable pub chain_lists : List ℕ → List Chain → List (List ℕ)
 chain_lists numbers chains = fold (λ lists chain. lists ++ chain_list numbers lists chain ∷ []) []
     chains
+
+-- the first numbers of the list at a place are added, at most so many
+abbrev pub AddsFirst : List ℕ → List Chain → ℕ → ℕ → List ℕ → List ℕ → Type 0
+AddsFirst numbers chains list most old new =
+    new ≡ old ++ take most (slice_index_or (chain_lists numbers chains) list [])
 
 -- a list at a place: its own numbers are held, it goes on with an earlier one, and it has as many numbers as it says
 pub record IsChain (numbers : List ℕ) (lists : List (List ℕ)) (place : ℕ) (chain : Chain) : Type

@@ -1,6 +1,6 @@
 -- The children of a node are the nodes that have it as their parent, by ascending number.
 use Rattle.std.specs.Prelude.{◌≡◌, ◌≢◌, ℕ, ◌==◌, ◌+◌, ◌-◌, ◌<◌, ◌≤◌, Bool, false, List, [], ◌∷◌, length, filter}
-use Rattle.std.specs.Prelude.{slice_get, slice_index, Some, if◌then◌else◌}
+use Rattle.std.specs.Prelude.{slice_get, slice_index, Some, if◌then◌else◌, Contains}
 use Rattle.std.specs.List.{range_with_len}
 use Rattle.std.specs.Option.{option_map_or}
 use Rattle.cost_tree.specs.declared.node.CostNode.{CostNode}
@@ -16,6 +16,11 @@ children_from nodes n m = filter (has_parent nodes n) (range_with_len m (length 
 -- the children of node n, by ascending number; node 0 is nobody's child
 abbrev pub children_of : List CostNode → ℕ → List ℕ
 children_of nodes n = children_from nodes n 1
+
+-- each node but node 0 stands behind its parent
+abbrev pub AreBehindParents : List CostNode → Type 0
+AreBehindParents nodes = (n : ℕ) (node : CostNode) → 0 < n → slice_get nodes n ≡ Some node
+    → node.parent < n
 
 -- the children of node n from this child on; 0 stands for none
 abbrev pub chain : List CostNode → ℕ → ℕ → List ℕ
@@ -39,3 +44,13 @@ pub record AreLinksFrom (nodes : List CostNode) (first_children next_siblings : 
 -- all nodes are linked; node 0 is nobody's child
 abbrev pub AreLinks : List CostNode → List ℕ → List ℕ → Type 0
 AreLinks nodes first_children next_siblings = AreLinksFrom nodes first_children next_siblings 1
+
+-- a list has every node whose parent is node n
+abbrev pub HasAllChildren : List CostNode → ℕ → List ℕ → Type 0
+HasAllChildren nodes n list = (m : ℕ) (node : CostNode) → 0 < m → slice_get nodes m ≡ Some node
+    → node.parent ≡ n → Contains list m
+
+-- and no others
+abbrev pub HasOnlyChildren : List CostNode → ℕ → List ℕ → Type 0
+HasOnlyChildren nodes n list = (m : ℕ) → Contains list m
+    → (node : CostNode) × (0 < m) × (slice_get nodes m ≡ Some node) × (node.parent ≡ n)

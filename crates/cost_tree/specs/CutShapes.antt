@@ -1,6 +1,6 @@
 -- Lists of numbers that are cut, for private clauses.
 use Rattle.std.specs.Prelude.{◌≡◌, ℕ, ◌+◌, ◌-◌, ◌*◌, ◌==◌, ◌<◌, ◌&&◌, not, min, nat_lt, if◌then◌else◌, List, [], ◌∷◌}
-use Rattle.std.specs.Prelude.{Some, length, map, slice_get, take}
+use Rattle.std.specs.Prelude.{Some, length, map, slice_get, take, slice_index}
 use Rattle.std.specs.Str.{bytes_eq}
 use Rattle.cost_tree.specs.declared.cut.Cut.{Cut}
 use Rattle.cost_tree.specs.declared.scale.Scale.{Scale}
@@ -27,6 +27,10 @@ abbrev pub left : List ℕ → List ℕ → ℕ
 left [] lengths = 0
 left (count ∷ counts) [] = 0
 left (count ∷ counts) (most ∷ lengths) = (most - count) + left counts lengths
+
+-- how many numbers of a cut aren't there yet
+abbrev pub missing : Cut → ℕ
+missing cut = left cut.counts.items cut.lengths.items
 
 -- how many numbers come next, where so many don't do: lists that begin alike mostly differ in what comes second
 unfoldable pub next_count : ℕ → ℕ
@@ -58,3 +62,8 @@ ended_cost [] costs node = 0
 ended_cost (end ∷ ends) [] node = 0
 ended_cost (end ∷ ends) (cost ∷ costs) node =
     (if end == node then cost else 0) + ended_cost ends costs node
+
+-- of each of so many nodes
+abbrev pub AreEndedCosts : List ℕ → List ℕ → ℕ → List ℕ → Type 0
+AreEndedCosts ends costs nodes sums = (node : ℕ) → node < nodes
+    → slice_index sums node ≡ ended_cost ends costs node

@@ -4,8 +4,11 @@
 -- line.
 use Rattle.std.specs.Prelude.{◌≡◌, ℕ, ◌<◌, ◌⊎◌, true, List, [], ◌∷◌, Some, length, slice_get, take}
 use Rattle.cost_tree.specs.declared.scale.Scale.{Scale}
-use Rattle.cost_tree.specs.Costed.{Costed}
+use Rattle.cost_tree.specs.Costed.{Costed, costed}
 use Rattle.cost_tree.specs.CostLines.{cost_of, is_small}
+use Rattle.cost_tree.specs.declared.cut.Cut.{Cut}
+use Rattle.cost_tree.specs.Texts.{AreTexts, lists_of}
+use Rattle.intern_tables.specs.Distinct.{AreDistinct}
 
 -- the first elements of each list, as many as stand beside it
 unfoldable pub cut_lists : {X : Type 0} → List ℕ → List (List X) → List (List X)
@@ -27,3 +30,11 @@ pub record AreEnough (depth : ℕ) (scale : Scale) (stacks : List Costed)
   pub count : length counts ≡ length lists
   pub each : (k count : ℕ) (texts : List (List ℕ)) → slice_get lists k ≡ Some texts
       → slice_get counts k ≡ Some count → IsEnough depth scale stacks texts count
+
+-- so many of each list with these costs, whichever texts the numbers are those of, and however long
+-- fronts may be
+abbrev pub AreEnoughFor : Scale → List (List ℕ) → List ℕ → Cut → Type 0
+AreEnoughFor scale whole costs cut = (names : List (List ℕ)) (depth : ℕ) → AreDistinct names
+    → AreTexts names whole
+    → AreEnough depth scale (costed (lists_of names whole) costs) (lists_of names whole)
+    cut.counts.items

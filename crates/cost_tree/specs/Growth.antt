@@ -4,10 +4,12 @@ use Rattle.std.specs.Prelude.{◌≡◌, ℕ, ◌==◌, ◌+◌, ◌<◌, ◌≤
 use Rattle.std.specs.Prelude.{if◌then◌else◌}
 use Rattle.cost_tree.specs.declared.edge.Edge.{Edge}
 use Rattle.cost_tree.specs.declared.node.CostNode.{CostNode}
-use Rattle.cost_tree.specs.Costed.{Costed}
+use Rattle.cost_tree.specs.Costed.{Costed, costed}
 use Rattle.cost_tree.specs.Inclusive.{inclusive, is_front, own, least}
-use Rattle.cost_tree.specs.Shapes.{AreSteps}
-use Rattle.cost_tree.specs.Texts.{IsText, fronts_of, text_of}
+use Rattle.cost_tree.specs.Shapes.{AreSteps, lists_in}
+use Rattle.cost_tree.specs.Texts.{IsText, fronts_of, text_of, AreTexts, lists_of}
+use Rattle.cost_tree.specs.declared.branches.Branches.{Branches}
+use Rattle.intern_tables.specs.Distinct.{AreDistinct}
 
 -- node 0 after a list that costs something is counted for it
 abbrev pub counted : CostNode → ℕ → ℕ → CostNode
@@ -69,3 +71,10 @@ pub record HasGrown (names : List (List ℕ)) (edges : List Edge) (nodes : List 
     (stacks : List Costed) (depth : ℕ) : Type 0 where
   pub branches : AreBranches names edges nodes (fronts_of names edges)
   pub grown : IsGrown (fronts_of names edges) nodes stacks stacks depth
+
+-- they are those of a shape's lists with these costs, whichever texts the numbers are those of
+abbrev pub HasGrownFor : List Edge → List ℕ → List ℕ → ℕ → Branches → Type 0
+HasGrownFor edges ends costs depth tree = (names : List (List ℕ)) → AreDistinct names
+    → AreTexts names (lists_in edges ends)
+    → HasGrown names tree.edges.items tree.nodes.items
+    (costed (lists_of names (lists_in edges ends)) costs) depth

@@ -2,10 +2,11 @@
 -- ascending number, that begins with the front, goes on and is the least one of its longer front,
 -- that longer front.
 use Rattle.std.specs.Prelude.{ℕ, ◌==◌, ◌+◌, ◌&&◌, Bool, List, length, map, filter, nat_lt, [], slice_get, take}
+use Rattle.std.specs.Prelude.{◌≡◌, sum_by}
 use Rattle.std.specs.List.{range_with_len}
 use Rattle.std.specs.Option.{option_map_or}
 use Rattle.cost_tree.specs.Costed.{Costed}
-use Rattle.cost_tree.specs.Inclusive.{has_front, least}
+use Rattle.cost_tree.specs.Inclusive.{has_front, least, inclusive, own}
 
 -- the texts of a stack by its number
 abbrev pub texts_at : List Costed → ℕ → List (List ℕ)
@@ -25,3 +26,8 @@ opens front stacks n =
 unfoldable pub next_fronts : List (List ℕ) → List Costed → List (List (List ℕ))
 next_fronts front stacks = map (longer_front front stacks)
     (filter (opens front stacks) (range_with_len 0 (length stacks)))
+
+-- a front's cost is its own and that of the fronts one text longer
+abbrev pub IsSumOfNext : List (List ℕ) → List Costed → Type 0
+IsSumOfNext front stacks = inclusive front stacks
+    ≡ own front stacks + sum_by (λ next. inclusive next stacks) (next_fronts front stacks)

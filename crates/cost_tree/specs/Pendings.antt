@@ -38,11 +38,23 @@ pending_gathered level few = if nat_lt 0 few.places then Line (gathered_line lev
 abbrev pub pending_child : ℕ → Child → Pending
 pending_child level child = Below level child.node
 
+-- of so many children, the first one last
+abbrev pub pending_of : ℕ → List Child → List Pending
+pending_of level children = reverse (map (pending_child level) children)
+
 -- the children of a node, which stand on this level, the first one last
 abbrev pub pending_children : Scale → TreeState → ℕ → ℕ → List Pending
 pending_children scale tree level n =
     pending_gathered level (gathered_in tree (small_children scale tree n))
     ++ reverse (map (Below level) (kept_children scale tree n))
+
+-- the children of a node are added behind what is pending
+abbrev pub AddsChildren : Scale → TreeState → ℕ → ℕ → List Pending → List Pending → Type 0
+AddsChildren scale tree level n old new = new ≡ old ++ pending_children scale tree level n
+
+-- and so many they are
+abbrev pub child_lines : Scale → TreeState → ℕ → ℕ → ℕ
+child_lines scale tree level n = length (pending_children scale tree level n)
 
 -- what is pending of a child that has no siblings
 abbrev pub pending_alone : Scale → TreeState → ℕ → ℕ → Pending

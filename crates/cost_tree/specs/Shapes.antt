@@ -34,6 +34,10 @@ pub record AreSteps {X : Type 0} (element : ℕ → X) (edges : List Edge)
 abbrev pub numbers_of : List Edge → List (List ℕ)
 numbers_of edges = paths (λ number. number) edges
 
+-- the edges lead to fronts of numbers, of which no two are equal
+abbrev pub LeadToFronts : List Edge → Type 0
+LeadToFronts edges = AreSteps (λ number. number) edges (numbers_of edges)
+
 -- the list that ends at a node
 abbrev pub list_at : List Edge → ℕ → List ℕ
 list_at edges end = slice_index_or (numbers_of edges) end []
@@ -48,7 +52,7 @@ IsUsed lists number = (list : List ℕ) × Contains lists list × Contains list 
 
 -- the lists end at nodes, and each edge's number is one of a list
 pub record IsShape (edges : List Edge) (ends : List ℕ) : Type 0 where
-  pub steps : AreSteps (λ number. number) edges (numbers_of edges)
+  pub steps : LeadToFronts edges
   pub held : All (λ end. end ≤ length edges) ends
   pub used : (place : ℕ) (edge : Edge) → slice_get edges place ≡ Some edge
       → IsUsed (lists_in edges ends) edge.text
@@ -60,3 +64,12 @@ IsChild edges new_edges edge place =
     ((new_edges ≡ edges) × (slice_get edges place ≡ Some edge))
     ⊎ (((k : ℕ) → slice_get edges k ≢ Some edge) × (place ≡ length edges)
     × (new_edges ≡ edges ++ edge ∷ []))
+
+-- an edge leads to the node, which is not node 0
+abbrev pub HasEdge : List Edge → ℕ → Type 0
+HasEdge edges node = (0 < node) × (node ≤ length edges)
+
+-- the node that goes on from a node by a number: it was there, or it is new and the last one
+abbrev pub IsNodeBy : List Edge → List Edge → ℕ → ℕ → ℕ → Type 0
+IsNodeBy edges new_edges parent number n = (place : ℕ) × (n ≡ place + 1)
+    × IsChild edges new_edges (record { parent = parent; text = number }) place

@@ -1,13 +1,15 @@
 -- How the lines that a tree gives stand for lines of fronts. A tree has lines where it is that of
 -- fewer than 2^32 stacks, which cost at most 2^62 together, to fewer than 2^32 texts.
 use Rattle.std.specs.Prelude.{ℕ, ◌^◌, ◌<◌, ◌≤◌, List, [], length, slice_index_or, sum_by}
+use Rattle.std.specs.Prelude.{◌≡◌, ◌∷◌, ◌++◌, Some, slice_get}
 use Rattle.cost_tree.specs.declared.line.CostLine.{CostLine}
 use Rattle.cost_tree.specs.declared.line.Place.{Place}
 use Rattle.cost_tree.specs.declared.line.Place.TheVariants.{Node, Gathered}
-use Rattle.cost_tree.specs.Costed.{Costed}
+use Rattle.cost_tree.specs.Costed.{Costed, costed}
 use Rattle.cost_tree.specs.CostLines.{FrontLine, Shown, a_front, gathered}
 use Rattle.cost_tree.specs.IsTreeOf.{IsTreeOf}
 use Rattle.cost_tree.specs.TreeState.{TreeState}
+use Rattle.cost_tree.specs.declared.node.CostNode.{CostNode}
 
 -- the front of node n
 abbrev pub front_at : TreeState → ℕ → List (List ℕ)
@@ -45,3 +47,23 @@ pub record IsLineOf (tree : TreeState) (stacks : List Costed) (depth : ℕ) (lin
   pub place : IsPlace tree line.place
   pub level : line.level ≤ depth
   pub within : line.cost ≤ sum_by (λ (stack : Costed). stack.cost) stacks
+
+-- the tree of lists, and its lines, whichever costs a costing has
+abbrev pub IsTreeOfStated : (List ℕ → Type 0) → List (List (List ℕ)) → ℕ → TreeState → Type 0
+IsTreeOfStated are_costs lists depth tree = (costs : List ℕ) → are_costs costs
+    → IsTreeOf tree (costed lists costs) depth
+
+abbrev pub HasLinesOfStated : (List ℕ → Type 0) → List (List (List ℕ)) → ℕ → TreeState → Type 0
+HasLinesOfStated are_costs lists depth tree = (costs : List ℕ) → are_costs costs
+    → HasLines tree (costed lists costs) depth
+
+-- a text is the last one of a node's front
+abbrev pub EndsFront : TreeState → ℕ → List ℕ → Type 0
+EndsFront tree n text = (front : List (List ℕ))
+    × (slice_get tree.fronts n ≡ Some (front ++ text ∷ []))
+
+-- a node's front is its parent's and this text
+abbrev pub LengthensFront : TreeState → ℕ → List ℕ → Type 0
+LengthensFront tree n text = (node : CostNode) (front : List (List ℕ)) → 0 < n
+    → slice_get tree.nodes n ≡ Some node → slice_get tree.fronts node.parent ≡ Some front
+    → slice_get tree.fronts n ≡ Some (front ++ text ∷ [])

@@ -1,16 +1,11 @@
 //! A tree that grows along a shape, by one list after another: each list's way up to a node that the tree has, and then
 //! the nodes that are missing, downwards. What nodes cost with those below them is summed up when all lists are in.
-ghost use Rattle.std.specs.Prelude.{◌≡◌, ℕ, ◌*◌, ◌+◌, ◌-◌, ◌^◌, ◌<◌, ◌≤◌, List, [], ◌∷◌, length, IfOk, OnOk, Some, slice_get, slice_index, sum, sum_by};
-ghost use Rattle.cost_tree.specs.declared.edge.Edge.{Edge};
-ghost use Rattle.cost_tree.specs.declared.node.CostNode.{CostNode};
-ghost use Rattle.cost_tree.specs.Building.{AreReached, GrowsBy, IsBuilt, IsMade, IsStarted};
-ghost use Rattle.cost_tree.specs.Costed.{costed};
-ghost use Rattle.cost_tree.specs.Growth.{HasGrown, counted, ended, weight};
-ghost use Rattle.cost_tree.specs.Shapes.{AreSteps, IsShape, lists_in, numbers_of};
-ghost use Rattle.cost_tree.specs.Texts.{AreTexts, lists_of};
-ghost use Rattle.cost_tree.specs.TreeParts.{IsTree};
+ghost use Rattle.std.specs.Prelude.{◌≡◌, ◌*◌, ◌+◌, ◌-◌, ◌^◌, ◌<◌, ◌≤◌, [], ◌∷◌, length, IfOk, OnOk, slice_index, sum, sum_by};
+ghost use Rattle.cost_tree.specs.Building.{AddsList, AreReached, IsBuilt, IsMade, IsStarted, StaysBuilt};
+ghost use Rattle.cost_tree.specs.Growth.{HasGrownFor, counted, ended, weight};
+ghost use Rattle.cost_tree.specs.Shapes.{HasEdge, IsShape, LeadToFronts};
+ghost use Rattle.cost_tree.specs.TreeParts.{IsRooted, IsTreeFor};
 ghost use Rattle.cost_tree.specs.Paths.{IsPathUp};
-ghost use Rattle.intern_tables.specs.Distinct.{AreDistinct};
 
 use crate::edge::Edge;
 use crate::edges::edge_of;
@@ -45,19 +40,8 @@ impl Branches {
         requires shape { IsShape edges.now ends.now }
         requires as_many { length costs.now ≡ length ends.now }
         requires bound { sum costs.now ≤ 2 ^ 62 }
-        ensures tree { IfOk result
-            (λ branches. (names : List (List ℕ))
-            → AreDistinct names
-            → AreTexts names (lists_in edges.now ends.now)
-            → IsTree names branches.edges.items branches.nodes.items
-            (costed (lists_of names (lists_in edges.now ends.now)) costs.now) depth) }
-        ensures count { IfOk result
-            (λ branches. length branches.nodes.items ≡ length branches.edges.items + 1) }
-        ensures lower { IfOk result
-            (λ branches. (n : ℕ) (node : CostNode)
-            → 0 < n
-            → slice_get branches.nodes.items n ≡ Some node
-            → node.parent < n) }
+        ensures tree { IfOk result (IsTreeFor edges.now ends.now costs.now depth) }
+        ensures rooted { IfOk result IsRooted }
     {
         let mut branches = Branches::grown(room, edges, ends, costs, depth)?;
         sum_up(&mut branches.nodes);
@@ -75,19 +59,8 @@ impl Branches {
         requires shape { IsShape edges.now ends.now }
         requires as_many { length costs.now ≡ length ends.now }
         requires bound { sum costs.now ≤ 2 ^ 62 }
-        ensures grown { IfOk result
-            (λ branches. (names : List (List ℕ))
-            → AreDistinct names
-            → AreTexts names (lists_in edges.now ends.now)
-            → HasGrown names branches.edges.items branches.nodes.items
-            (costed (lists_of names (lists_in edges.now ends.now)) costs.now) depth) }
-        ensures count { IfOk result
-            (λ branches. length branches.nodes.items ≡ length branches.edges.items + 1) }
-        ensures lower { IfOk result
-            (λ branches. (n : ℕ) (node : CostNode)
-            → 0 < n
-            → slice_get branches.nodes.items n ≡ Some node
-            → node.parent < n) }
+        ensures grown { IfOk result (HasGrownFor edges.now ends.now costs.now depth) }
+        ensures rooted { IfOk result IsRooted }
         ensures within { IfOk result
             (λ branches. sum_by weight branches.nodes.items ≤ 3 * 2 ^ 62) }
     {
@@ -159,16 +132,12 @@ impl Branches {
         cost: u64,
         depth: usize,
     ) -> Result<(), NoMemory>
-        requires steps { AreSteps (λ number. number) edges.now (numbers_of edges.now) }
+        requires steps { LeadToFronts edges.now }
         requires end { end ≤ length edges.now }
         requires cost { 0 < cost }
         requires built { IsBuilt edges.now self.old }
         requires room { sum_by weight self.old.nodes.items + 3 * cost < 2 ^ 64 }
-        ensures built { OnOk result (IsBuilt edges.now self.new) }
-        ensures weight { OnOk result
-            (sum_by weight self.new.nodes.items ≤ sum_by weight self.old.nodes.items + 3 * cost) }
-        ensures grown { OnOk result
-            (GrowsBy edges.now end list cost depth self.old self.new) }
+        ensures added { OnOk result (AddsList edges.now end list cost depth self.old self.new) }
     {
         count(&mut self.nodes[0], list, cost);
         let node = self.number(edges, end, list, depth)?;
@@ -186,13 +155,11 @@ impl Branches {
         list: u32,
         depth: usize,
     ) -> Result<usize, NoMemory>
-        requires steps { AreSteps (λ number. number) edges.now (numbers_of edges.now) }
+        requires steps { LeadToFronts edges.now }
         requires end { end ≤ length edges.now }
         requires built { IsBuilt edges.now self.old }
-        ensures built { OnOk result (IsBuilt edges.now self.new) }
+        ensures stays { OnOk result (StaysBuilt edges.now self.old self.new) }
         ensures held { IfOk result (λ n. n < length self.new.nodes.items) }
-        ensures weight { OnOk result
-            (sum_by weight self.new.nodes.items ≡ sum_by weight self.old.nodes.items) }
         ensures reached { IfOk result
             (λ n. AreReached edges.now end list depth self.old self.new n) }
     {
@@ -214,8 +181,7 @@ impl Branches {
         place: usize,
         list: u32,
     ) -> Result<usize, NoMemory>
-        requires place { 0 < place }
-        requires within { place ≤ length edges.now }
+        requires place { HasEdge edges.now place }
         requires parent { parent < length self.old.nodes.items }
         requires level { slice_index self.old.levels.items parent < 2 ^ 64 - 1 }
         requires built { IsBuilt edges.now self.old }
@@ -259,7 +225,7 @@ fn climb(
     end: usize,
     path: &mut Vec<usize>,
 ) -> Result<usize, NoMemory>
-    requires steps { AreSteps (λ number. number) edges.now (numbers_of edges.now) }
+    requires steps { LeadToFronts edges.now }
     requires end { end ≤ length edges.now }
     requires count { length numbered.now ≡ length edges.now + 1 }
     requires root { slice_index numbered.now 0 ≡ 1 }

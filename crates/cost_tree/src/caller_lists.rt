@@ -1,7 +1,7 @@
 //! Lists of texts as they are told: with which earlier list each begins, and which texts follow. The fronts that they share are
 //! looked for when all are told, so that what the texts were made of can be let go before.
-ghost use Rattle.std.specs.Prelude.{◌≡◌, ◌≢◌, ℕ, ◌-◌, ◌^◌, ◌<◌, List, [], ◌∷◌, ◌++◌, length, IfOk, OnOk};
-ghost use Rattle.cost_tree.specs.GrowingLists.{caller_list};
+ghost use Rattle.std.specs.Prelude.{◌≡◌, ◌≢◌, ℕ, ◌-◌, ◌^◌, ◌<◌, List, [], length, IfOk, OnOk};
+ghost use Rattle.cost_tree.specs.GrowingLists.{HasBegun, LastGets};
 ghost use Rattle.cost_tree.specs.Told.{AreTold, MayFollow, after, told};
 
 use crate::fronts::Fronts;
@@ -50,8 +50,7 @@ impl CallerLists {
     pub fn begin(&mut self, caller: u32) -> Result<(), NoMemory>
         requires held { caller ≢ 0 → caller < length self.old }
         requires few { length self.old < 2 ^ 32 - 1 }
-        ensures appended { OnOk result
-            (self.new ≡ self.old ++ caller_list self.old caller ∷ []) }
+        ensures appended { OnOk result (HasBegun self.old caller self.new) }
     {
         self.steps.push(ListStep::Begin { caller })?;
         Ok(())
@@ -60,10 +59,7 @@ impl CallerLists {
     /// Appends the text to the last list, of which there must be one. After `NoMemory` the lists are unfit for use.
     pub fn push(&mut self, text: &[u8]) -> Result<(), NoMemory>
         requires begun { 0 < length self.old }
-        ensures appended { OnOk result
-            ((earlier : List (List (List ℕ))) (last : List (List ℕ))
-            → self.old ≡ earlier ++ last ∷ []
-            → self.new ≡ earlier ++ (last ++ text.now ∷ []) ∷ []) }
+        ensures appended { OnOk result (LastGets self.old text.now self.new) }
         ensures count { OnOk result (length self.new ≡ length self.old) }
     {
         let number = self.names.intern(text)?;

@@ -1,7 +1,7 @@
 //! Lists of numbers, each of which may go on with an earlier one: it takes memory for its own numbers alone.
 //! What the numbers stand for, and what the lists cost, are no part of it.
 ghost use Rattle.std.specs.Prelude.{◌≡◌, ℕ, ◌+◌, ◌-◌, ◌^◌, ◌<◌, ◌≤◌, List, [], ◌∷◌, ◌++◌, length, min, take, IfSome, IfOk, OnOk, OnErr, slice_index_or};
-ghost use Rattle.cost_tree.specs.ChainLists.{AreChains, chain_lists, own_numbers};
+ghost use Rattle.cost_tree.specs.ChainLists.{AddsFirst, AreChains, chain_lists, own_numbers};
 ghost use Rattle.cost_tree.specs.Following.{following};
 
 use crate::chain::Chain;
@@ -137,8 +137,7 @@ fn put_list(
     requires chains { AreChains own.now chains.now (chain_lists own.now chains.now) }
     requires held { list < length chains.now }
     ensures appended { OnOk result
-        (numbers.new.items ≡ numbers.old.items
-        ++ take most (slice_index_or (chain_lists own.now chains.now) list [])) }
+        (AddsFirst own.now chains.now list most numbers.old.items numbers.new.items) }
 {
     let mut next = Some(list);
     let mut left = most;

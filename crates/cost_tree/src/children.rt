@@ -1,7 +1,7 @@
 //! The children of a node as lines show them: the costly ones by descending cost, and the others gathered.
-ghost use Rattle.std.specs.Prelude.{◌≡◌, ◌<◌, ◌≤◌, ◌^◌, ◌++◌, All, AllPairs, length, map, sum_by, OnOk, IfOk, filter};
+ghost use Rattle.std.specs.Prelude.{◌≡◌, ◌<◌, ◌≤◌, ◌^◌, ◌++◌, All, AllPairs, length, sum_by, OnOk, IfOk};
 ghost use Rattle.cost_tree.specs.Order.{by_cost};
-ghost use Rattle.cost_tree.specs.Shares.{child_at, cost_at, gathered_in, is_kept_at, is_small_at};
+ghost use Rattle.cost_tree.specs.Shares.{cost_at, kept_of, small_of};
 
 use crate::scale::Scale;
 use crate::tree::CostTree;
@@ -35,11 +35,8 @@ pub(crate) fn split_children(
     requires few { length nodes.now < 2 ^ 64 }
     requires within { sum_by (cost_at tree.now) nodes.now ≤ 2 ^ 62 }
     ensures kept { OnOk result
-        (kept.new.items ≡ kept.old.items
-        ++ map (child_at tree.now) (filter (is_kept_at scale tree.now) nodes.now)) }
-    ensures gathered { IfOk result
-        (λ gathered. gathered
-        ≡ gathered_in tree.now (filter (is_small_at scale tree.now) nodes.now)) }
+        (kept.new.items ≡ kept.old.items ++ kept_of scale tree.now nodes.now) }
+    ensures gathered { IfOk result (λ gathered. gathered ≡ small_of scale tree.now nodes.now) }
 {
     let mut gathered = Gathered { places: 0, cost: 0 };
     'each_node: for node in nodes {

@@ -1,6 +1,6 @@
 //! What each stack costs, by a closure that is kept.
-ghost use Rattle.std.specs.Prelude.{◌≡◌, ℕ, ◌<◌, List, Some, IfOk, OnOk, slice_get};
-ghost use Rattle.cost_tree.specs.Costs.{AreCosts};
+ghost use Rattle.std.specs.Prelude.{◌≡◌, ℕ, ◌<◌, List, IfOk, OnOk};
+ghost use Rattle.cost_tree.specs.Costs.{AreAllCosts, AreCosts, IsCostAt, IsStated, KeepsCosts};
 
 use hp_num::NoMemory;
 use std::alloc::Global;
@@ -19,8 +19,7 @@ impl<F: Fn(u32) -> u64> Costing<F> {
         requires stated { (costs : List ℕ) × AreCosts (F.pre cost) (F.post cost) stacks costs }
         ensures stacks { result.stacks ≡ stacks }
         ensures closure { result.cost ≡ cost }
-        ensures stated { (costs : List ℕ) → AreCosts (F.pre cost) (F.post cost) stacks costs
-            → AreCosts (F.pre result.cost) (F.post result.cost) result.stacks costs }
+        ensures stated { KeepsCosts F.pre F.post stacks cost result }
     {
         Costing { stacks, cost }
     }
@@ -34,24 +33,17 @@ impl<F: Fn(u32) -> u64> Costing<F> {
 
     /// The cost of the stack, which must be below `stacks`.
     pub fn of(&self, stack: u32) -> u64
-        requires stated { (costs : List ℕ)
-            × AreCosts (F.pre self.now.cost) (F.post self.now.cost) self.now.stacks costs }
+        requires stated { IsStated F.pre F.post self.now }
         requires below { stack < self.now.stacks }
-        ensures cost { (costs : List ℕ)
-            → AreCosts (F.pre self.now.cost) (F.post self.now.cost) self.now.stacks costs
-            → slice_get costs stack ≡ Some result }
+        ensures cost { IsCostAt F.pre F.post self.now stack result }
     {
         (self.cost)(stack)
     }
 
     /// Replaces `costs` by those of all stacks, in their order.
     pub(crate) fn list_into(&self, costs: &mut Vec<u64>) -> Result<(), NoMemory>
-        requires stated { (costs : List ℕ)
-            × AreCosts (F.pre self.now.cost) (F.post self.now.cost) self.now.stacks costs }
-        ensures costs { OnOk result
-            ((list : List ℕ)
-            → AreCosts (F.pre self.now.cost) (F.post self.now.cost) self.now.stacks list
-            → costs.new.items ≡ list) }
+        requires stated { IsStated F.pre F.post self.now }
+        ensures costs { OnOk result (AreAllCosts F.pre F.post self.now costs.new.items) }
     {
         costs.clear();
         costs.reserve(self.stacks as usize)?;
@@ -63,12 +55,8 @@ impl<F: Fn(u32) -> u64> Costing<F> {
 
     /// The costs of all stacks, in their order, or `NoMemory`.
     pub fn list(&self, alloc: Global) -> Result<Vec<u64>, NoMemory>
-        requires stated { (costs : List ℕ)
-            × AreCosts (F.pre self.now.cost) (F.post self.now.cost) self.now.stacks costs }
-        ensures costs { IfOk result
-            (λ list. (costs : List ℕ)
-            → AreCosts (F.pre self.now.cost) (F.post self.now.cost) self.now.stacks costs
-            → list.items ≡ costs) }
+        requires stated { IsStated F.pre F.post self.now }
+        ensures costs { IfOk result (λ list. AreAllCosts F.pre F.post self.now list.items) }
     {
         let mut costs = Vec::new(alloc);
         self.list_into(&mut costs)?;

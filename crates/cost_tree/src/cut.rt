@@ -1,12 +1,9 @@
 //! Lists of numbers that are cut: each list's first numbers, as many as the lines of trees need.
 //! Which costs a tree has, and what the numbers stand for, is no part of it.
-ghost use Rattle.std.specs.Prelude.{◌≡◌, ◌≢◌, ℕ, ◌^◌, ◌<◌, ◌≤◌, List, false, length, map, min, sum, true, IfOk, OnOk};
-ghost use Rattle.cost_tree.specs.Costed.{costed};
-ghost use Rattle.cost_tree.specs.CutShapes.{IsCutOf, left, next_count, raised, raised_counts};
-ghost use Rattle.cost_tree.specs.Cuts.{AreEnough, cut_lists};
+ghost use Rattle.std.specs.Prelude.{◌≡◌, ◌≢◌, ◌^◌, ◌<◌, ◌≤◌, false, length, map, min, sum, true, IfOk, OnOk};
+ghost use Rattle.cost_tree.specs.CutShapes.{IsCutOf, missing, next_count, raised, raised_counts};
+ghost use Rattle.cost_tree.specs.Cuts.{AreEnoughFor, cut_lists};
 ghost use Rattle.cost_tree.specs.GrowingLists.{LastGains};
-ghost use Rattle.cost_tree.specs.Texts.{AreTexts, lists_of};
-ghost use Rattle.intern_tables.specs.Distinct.{AreDistinct};
 
 use crate::chains::Chains;
 use crate::room::CutRoom;
@@ -54,11 +51,7 @@ impl Cut {
         requires bound { sum costs.now ≤ 2 ^ 62 }
         requires cut { IsCutOf whole.now self.old }
         ensures cut { IsCutOf whole.now self.new }
-        ensures enough { OnOk result
-            ((names : List (List ℕ)) (depth : ℕ) → AreDistinct names →
-            AreTexts names whole.now →
-            AreEnough depth scale (costed (lists_of names whole.now) costs.now)
-            (lists_of names whole.now) self.new.counts.items) }
+        ensures enough { OnOk result (AreEnoughFor scale whole.now costs.now self.new) }
     {
         'rounds: while self.lengthen_some(alloc, whole, costs, scale, room)? {}
         Ok(())
@@ -78,15 +71,9 @@ impl Cut {
         requires bound { sum costs.now ≤ 2 ^ 62 }
         requires cut { IsCutOf whole.now self.old }
         ensures cut { IsCutOf whole.now self.new }
-        ensures less { IfOk result
-            (λ some. some ≡ true → left self.new.counts.items self.new.lengths.items
-            < left self.old.counts.items self.old.lengths.items) }
+        ensures less { IfOk result (λ some. some ≡ true → missing self.new < missing self.old) }
         ensures enough { IfOk result
-            (λ some. some ≡ false
-            → (names : List (List ℕ)) (depth : ℕ) → AreDistinct names →
-            AreTexts names whole.now →
-            AreEnough depth scale (costed (lists_of names whole.now) costs.now)
-            (lists_of names whole.now) self.new.counts.items) }
+            (λ some. some ≡ false → AreEnoughFor scale whole.now costs.now self.new) }
     {
         let CutRoom { ended, counts } = room;
         self.shape.ended_costs_into(costs, ended)?;

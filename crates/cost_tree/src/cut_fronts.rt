@@ -1,10 +1,9 @@
 //! Lists of texts that are cut where the lines of trees need no more of them: behind a front that has no line.
 //! What the lists cost is told for each tree.
-ghost use Rattle.std.specs.Prelude.{◌≡◌, ℕ, List, length, IfOk, OnOk};
-ghost use Rattle.cost_tree.specs.Costed.{costed};
-ghost use Rattle.cost_tree.specs.CostLines.{cost_lines};
-ghost use Rattle.cost_tree.specs.Costs.{AreCosts};
+ghost use Rattle.std.specs.Prelude.{◌≡◌, length, IfOk, OnOk};
+ghost use Rattle.cost_tree.specs.Costs.{HasCosts, IsStated};
 ghost use Rattle.cost_tree.specs.Texts.{AreTexts, lists_of};
+ghost use Rattle.cost_tree.specs.CutState.{HasWholeLines};
 
 use crate::chains::Chains;
 use crate::costing::Costing;
@@ -72,14 +71,10 @@ impl CutFronts {
         scale: Scale,
     ) -> Result<(), NoMemory>
         requires as_many { costing.now.stacks ≡ length self.old.whole }
-        requires stated { (costs : List ℕ)
-            × AreCosts (F.pre costing.now.cost) (F.post costing.now.cost) costing.now.stacks costs }
+        requires stated { IsStated F.pre F.post costing.now }
         ensures whole { self.new.whole ≡ self.old.whole }
         ensures lines { OnOk result
-            ((costs : List ℕ) (depth : ℕ)
-            → AreCosts (F.pre costing.now.cost) (F.post costing.now.cost) costing.now.stacks costs
-            → cost_lines depth scale (costed self.new.cut costs)
-            ≡ cost_lines depth scale (costed self.new.whole costs)) }
+            (HasWholeLines (HasCosts F.pre F.post costing.now) scale self.new) }
     {
         let TreeRoom { costs, cut, .. } = &mut self.room;
         costing.list_into(costs)?;

@@ -2,8 +2,7 @@
 //! Which fronts they lead to is no part of it.
 ghost use Rattle.std.specs.Prelude.{◌≡◌, ◌≢◌, ◌⊎◌, ℕ, ◌-◌, ◌^◌, ◌<◌, ◌≤◌, [], true, false, length, Some, slice_get, IfNone, IfOk, IfSome, OnOk, OnErr};
 ghost use Rattle.std.specs.HashMap.{get};
-ghost use Rattle.cost_tree.specs.declared.edge.Edge.{Edge};
-ghost use Rattle.cost_tree.specs.EdgeState.{edge_eq};
+ghost use Rattle.cost_tree.specs.EdgeState.{KeepsOthers, edge_eq};
 ghost use Rattle.cost_tree.specs.Shapes.{IsChild};
 
 use crate::edge::Edge;
@@ -139,8 +138,7 @@ fn is_at(edges: &[Edge], place: usize, edge: Edge) -> bool
 fn note(places: &mut HashMap<Edge, usize>, edge: Edge, place: usize) -> Result<(), NoMemory>
     ensures noted { OnOk result
         ((edge.parent ≡ place) ⊎ (get edge_eq places.new edge ≡ Some place)) }
-    ensures others { (other : Edge) → edge ≢ other
-        → get edge_eq places.new other ≡ get edge_eq places.old other }
+    ensures others { KeepsOthers edge (get edge_eq places.old) (get edge_eq places.new) }
 {
     if edge.parent == place {
         return Ok(());

@@ -1,6 +1,6 @@
 //! What lists cost together that end at one node.
-ghost use Rattle.std.specs.Prelude.{◌≡◌, ℕ, ◌^◌, ◌<◌, ◌≤◌, All, length, map, slice_index, sum, OnOk};
-ghost use Rattle.cost_tree.specs.CutShapes.{ended_cost};
+ghost use Rattle.std.specs.Prelude.{◌≡◌, ◌^◌, ◌<◌, ◌≤◌, All, length, map, slice_index, sum, OnOk};
+ghost use Rattle.cost_tree.specs.CutShapes.{AreEndedCosts};
 
 use hp_num::NoMemory;
 use std::alloc::Global;
@@ -35,8 +35,7 @@ pub(crate) fn ended_costs_into(
     requires as_many { length costs.now ≡ length ends.now }
     requires bound { sum costs.now ≤ 2 ^ 62 }
     ensures count { OnOk result (length sums.new.items ≡ nodes) }
-    ensures sums { OnOk result ((node : ℕ) → node < nodes →
-        slice_index sums.new.items node ≡ ended_cost ends.now costs.now node) }
+    ensures sums { OnOk result (AreEndedCosts ends.now costs.now nodes sums.new.items) }
 {
     sums.clear();
     sums.resize(nodes, 0)?;

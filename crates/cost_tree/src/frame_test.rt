@@ -1,7 +1,7 @@
 //! Which names are meant, by a closure that is kept.
-ghost use Rattle.std.specs.Prelude.{◌≡◌, ℕ, ◌↔◌, List, Contains, IsTrue};
+ghost use Rattle.std.specs.Prelude.{◌≡◌, ℕ, List};
 ghost use Rattle.std.specs.Fn.{FnReturnsAt};
-ghost use Rattle.cost_tree.specs.FrameTexts.{AreTexts};
+ghost use Rattle.cost_tree.specs.FrameTexts.{AreTexts, TellsOf, TellsSame, says};
 
 /// A test of names, as those of functions: it answers true exactly for the names of a list.
 #[derive(Drop)]
@@ -16,8 +16,7 @@ impl<F: Fn(&[u8]) -> bool> FrameTest<F> {
         requires stated { (texts : List (List ℕ)) × AreTexts (FnReturnsAt F.Fn test) texts }
         ensures closure { result.test ≡ test }
         ensures callable { F.IsAlwaysCallable result.test }
-        ensures stated { (texts : List (List ℕ)) → AreTexts (FnReturnsAt F.Fn test) texts
-            → AreTexts (FnReturnsAt F.Fn result.test) texts }
+        ensures stated { TellsSame (FnReturnsAt F.Fn test) (FnReturnsAt F.Fn result.test) }
     {
         FrameTest { test }
     }
@@ -25,8 +24,7 @@ impl<F: Fn(&[u8]) -> bool> FrameTest<F> {
     /// Whether the name is one of the list's.
     pub fn of(&self, name: &[u8]) -> bool
         requires { F.IsAlwaysCallable self.now.test }
-        ensures listed { (texts : List (List ℕ)) → AreTexts (FnReturnsAt F.Fn self.now.test) texts
-            → IsTrue result ↔ Contains texts name.now }
+        ensures listed { TellsOf (says F.Fn self.now) name.now result }
     {
         (self.test)(name)
     }

@@ -1,8 +1,8 @@
 //! What takes the lines of fronts, one after another, each with what it shows.
 //! Which lines there are is no part of it, and no more is whether a tree has a node for each.
-ghost use Rattle.std.specs.Prelude.{ℕ, ◌∷◌, [], ◌++◌, List, OnOk};
+ghost use Rattle.std.specs.Prelude.{ℕ, [], List, OnOk};
 ghost use Rattle.cost_tree.specs.CostLines.{FrontLine};
-ghost use Rattle.cost_tree.specs.IsShownAs.{IsShownAs};
+ghost use Rattle.cost_tree.specs.IsShownAs.{TakesShown};
 
 use crate::shown_line::ShownLine;
 use hp_num::NoMemory;
@@ -19,9 +19,5 @@ pub trait FrontLineTaker {
 
     /// Takes the next line. On `NoMemory` the taker is of no use.
     fn take_line(&mut self, line: ShownLine) -> Result<(), NoMemory>
-        ensures taken { OnOk result
-            ((names : List (List ℕ)) (front_line : FrontLine) (first : Self)
-            (lines : List FrontLine) → IsShownAs names line.entry front_line →
-            takes names first lines self.old
-            → takes names first (lines ++ front_line ∷ []) self.new) };
+        ensures taken { OnOk result (TakesShown takes line.entry self.old self.new) };
 }

@@ -1,16 +1,11 @@
 //! The lines of lists of texts with their costs, each with what it shows.
 //! How a line is written is the business of the callers.
-ghost use Rattle.std.specs.Prelude.{◌≡◌, ℕ, ◌^◌, ◌≤◌, All, List, [], length, map, sum, IfOk};
-ghost use Rattle.std.specs.List.{flat_map};
-ghost use Rattle.cost_tree.specs.declared.line.CostLine.{CostLine};
-ghost use Rattle.cost_tree.specs.AreLinesOf.{AreLinesOf};
-ghost use Rattle.cost_tree.specs.Costed.{Costed, costed};
-ghost use Rattle.cost_tree.specs.CostLines.{cost_lines};
-ghost use Rattle.cost_tree.specs.Costs.{AreCosts};
-ghost use Rattle.cost_tree.specs.IsShownAs.{IsLevelled, IsPlaceOf, IsShownAs};
-ghost use Rattle.cost_tree.specs.Texts.{lists_of};
-ghost use Rattle.cost_tree.specs.TreeLines.{HasLines, IsPlace, front_at, line_at, shown_at};
-ghost use Rattle.cost_tree.specs.TreeTails.{tailed_at};
+ghost use Rattle.std.specs.Prelude.{◌≡◌, ◌^◌, ◌≤◌, [], length, sum, IfOk};
+ghost use Rattle.cost_tree.specs.AreLinesOf.{GivesLines};
+ghost use Rattle.cost_tree.specs.Costs.{HasCosts, IsStated};
+ghost use Rattle.cost_tree.specs.IsShownAs.{IsPlaceOf, IsShownIn, TakesCosted, TakesStated};
+ghost use Rattle.cost_tree.specs.TreeLines.{IsPlace, front_at, shown_at};
+ghost use Rattle.cost_tree.specs.TreeTails.{TakesAllTailed};
 
 use crate::costing::Costing;
 use crate::forked_fronts::ForkedFronts;
@@ -37,13 +32,9 @@ pub fn take_front_lines<F: Fn(u32) -> u64, T: FrontLineTaker + Drop>(
     taker: T,
 ) -> Result<T, NoMemory>
     requires as_many { costing.now.stacks ≡ length fronts.now }
-    requires stated { (costs : List ℕ)
-        × AreCosts (F.pre costing.now.cost) (F.post costing.now.cost) costing.now.stacks costs }
+    requires stated { IsStated F.pre F.post costing.now }
     ensures taken { IfOk result
-        (λ after. (costs : List ℕ)
-        → AreCosts (F.pre costing.now.cost) (F.post costing.now.cost) costing.now.stacks costs
-        → (names : List (List ℕ))
-        × T.takes names taker (cost_lines depth scale (costed fronts.now costs)) after) }
+        (TakesStated T.takes (HasCosts F.pre F.post costing.now) depth scale fronts.now taker) }
 {
     let costs = costing.list(alloc)?;
     take_costed(alloc, fronts, &costs, scale, depth, taker)
@@ -60,9 +51,7 @@ fn take_costed<T: FrontLineTaker + Drop>(
 ) -> Result<T, NoMemory>
     requires as_many { length costs.now ≡ length fronts.now }
     requires bound { sum costs.now ≤ 2 ^ 62 }
-    ensures taken { IfOk result
-        (λ after. (names : List (List ℕ))
-        × T.takes names taker (cost_lines depth scale (costed fronts.now costs.now)) after) }
+    ensures taken { IfOk result (TakesCosted T.takes depth scale fronts.now costs.now taker) }
 {
     let mut told = taker;
     told.take_texts(&fronts.names)?;
@@ -88,16 +77,8 @@ fn take_tailed<T: FrontLineTaker + Drop>(
     lists: CutLists,
     taker: T,
 ) -> Result<T, NoMemory>
-    requires tree { (stacks : List Costed) × (depth : ℕ) × HasLines tree.now stacks depth }
-    ensures taken { IfOk result
-        (λ after. (lines : List CostLine) × AreLinesOf scale tree.now lines
-        × ((first : T) → tree.now.names ≡ lists.entry.names.now
-        → T.takes lists.entry.names.now first [] taker
-        → All IsLevelled (map (line_at tree.now) lines)
-        → T.takes lists.entry.names.now first
-        (flat_map (tailed_at lists.entry.depth
-        (lists_of lists.entry.names.now lists.entry.whole.now) lists.entry.counts.now tree.now)
-        lines) after)) }
+    requires tree { GivesLines tree.now }
+    ensures taken { IfOk result (TakesAllTailed T.takes scale tree.now lists.entry taker) }
 {
     let mut lines = TailedLines {
         lists,
@@ -119,21 +100,11 @@ struct TailedLines<'a, T: FrontLineTaker + Drop> {
 }
 
 impl<'a, T: FrontLineTaker + Drop> CostLineTaker for TailedLines<'a, T> {
-    ghost use Rattle.std.specs.Prelude.{◌≡◌, [], All, map};
-    ghost use Rattle.std.specs.List.{flat_map};
-    ghost use Rattle.cost_tree.specs.IsShownAs.{IsLevelled};
-    ghost use Rattle.cost_tree.specs.Texts.{lists_of};
-    ghost use Rattle.cost_tree.specs.TreeLines.{line_at};
-    ghost use Rattle.cost_tree.specs.TreeTails.{tailed_at};
+    ghost use Rattle.std.specs.Prelude.{◌≡◌};
+    ghost use Rattle.cost_tree.specs.TreeTails.{TakesTailed};
 
     ghost takes = { λ tree first lines now. (now.lists ≡ first.lists)
-        × ((begun : T) → tree.names ≡ first.lists.names.now
-        → T.takes first.lists.names.now begun [] first.taker
-        → All IsLevelled (map (line_at tree) lines)
-        → T.takes first.lists.names.now begun
-        (flat_map (tailed_at first.lists.depth
-        (lists_of first.lists.names.now first.lists.whole.now) first.lists.counts.now tree) lines)
-        now.taker) };
+        × TakesTailed T.takes tree first.lists first.taker lines now.taker };
 
     fn take_line(&mut self, tree: &CostTree, line: CostLine) -> Result<(), NoMemory> {
         let shown = shown_line(tree, line);
@@ -153,8 +124,7 @@ impl<'a, T: FrontLineTaker + Drop> CostLineTaker for TailedLines<'a, T> {
 fn shown_line<'a>(tree: &'a CostTree, line: CostLine) -> ShownLine<'a>
     requires root { front_at tree.now 0 ≡ [] }
     requires place { IsPlace tree.now line.place }
-    ensures { IsLevelled (line_at tree.now line)
-        → IsShownAs tree.now.names result (line_at tree.now line) }
+    ensures { IsShownIn tree.now line result }
 {
     ShownLine {
         level: line.level,

@@ -2,6 +2,7 @@
 //! What the lists cost is told when a tree is built.
 ghost use Rattle.std.specs.Prelude.{◌≡◌, ℕ, ◌+◌, ◌-◌, ◌^◌, ◌<◌, List, [], ◌∷◌, ◌++◌, length, IfOk, OnOk, OnErr};
 ghost use Rattle.cost_tree.specs.Texts.{AreTexts, lists_of};
+ghost use Rattle.cost_tree.specs.GrowingLists.{LastGets};
 
 use crate::shape::Shape;
 use hp_num::NoMemory;
@@ -62,10 +63,7 @@ impl Fronts {
     /// Appends the text to the last list, of which there must be one. On `NoMemory` the lists are as before.
     pub fn push(&mut self, text: &[u8]) -> Result<(), NoMemory>
         requires begun { 0 < length self.old }
-        ensures appended { OnOk result
-            ((earlier : List (List (List ℕ))) (last : List (List ℕ))
-            → self.old ≡ earlier ++ last ∷ []
-            → self.new ≡ earlier ++ (last ++ text.now ∷ []) ∷ []) }
+        ensures appended { OnOk result (LastGets self.old text.now self.new) }
         ensures count { length self.new ≡ length self.old }
         ensures unchanged { OnErr result (self.new ≡ self.old) }
     {

@@ -1,9 +1,10 @@
 //! What takes the lines of a tree, one after another, as a vector that keeps them does.
 //! Which lines a tree has is no part of it.
-ghost use Rattle.std.specs.Prelude.{◌≡◌, ◌∷◌, [], ◌++◌, List, OnOk};
+ghost use Rattle.std.specs.Prelude.{◌≡◌, [], ◌++◌, List, OnOk};
 ghost use Rattle.cost_tree.specs.declared.line.CostLine.{CostLine};
 ghost use Rattle.cost_tree.specs.TreeLines.{IsPlace, front_at};
 ghost use Rattle.cost_tree.specs.TreeState.{TreeState};
+ghost use Rattle.cost_tree.specs.AreLinesOf.{TakesLine};
 
 use crate::line::CostLine;
 use crate::tree::CostTree;
@@ -18,9 +19,7 @@ pub trait CostLineTaker {
     fn take_line(&mut self, tree: &CostTree, line: CostLine) -> Result<(), NoMemory>
         requires root { front_at tree.now 0 ≡ [] }
         requires place { IsPlace tree.now line.place }
-        ensures taken { OnOk result
-            ((first : Self) (lines : List CostLine) → takes tree.now first lines self.old
-            → takes tree.now first (lines ++ line ∷ []) self.new) };
+        ensures taken { OnOk result (TakesLine (takes tree.now) line self.old self.new) };
 }
 
 impl CostLineTaker for Vec<CostLine> {

@@ -1,14 +1,9 @@
 //! The lines of a tree: that of a node stands before those of its children.
 //! Where a tree comes from, and how a line is written, are no part of it.
-ghost use Rattle.std.specs.Prelude.{◌≡◌, ℕ, ◌<◌, ◌≤◌, ◌^◌, [], ◌++◌, All, List, length, map, IfOk, OnOk, reverse, sum_by};
-ghost use Rattle.cost_tree.specs.Children.{children_of};
-ghost use Rattle.cost_tree.specs.Costed.{Costed};
-ghost use Rattle.cost_tree.specs.CostLines.{cost_lines};
-ghost use Rattle.cost_tree.specs.declared.line.CostLine.{CostLine};
-ghost use Rattle.cost_tree.specs.Pendings.{IsPending, children_below, pending_alone, pending_below, pending_child, pending_children, pending_gathered, pending_line};
-ghost use Rattle.cost_tree.specs.Shares.{cost_at};
-ghost use Rattle.cost_tree.specs.AreLinesOf.{AreLinesOf};
-ghost use Rattle.cost_tree.specs.TreeLines.{HasLines, IsLineOf, line_at};
+ghost use Rattle.std.specs.Prelude.{◌≡◌, ◌<◌, ◌≤◌, ◌^◌, [], ◌++◌, length, IfOk, OnOk, sum_by};
+ghost use Rattle.cost_tree.specs.Pendings.{AddsChildren, IsPending, child_lines, children_below, pending_alone, pending_below, pending_gathered, pending_line, pending_of};
+ghost use Rattle.cost_tree.specs.Shares.{HasFewChildren, cost_at};
+ghost use Rattle.cost_tree.specs.AreLinesOf.{AreInTree, GivesLines, StandForAll, TakesLines};
 
 use crate::child_nodes::ChildNodes;
 use crate::children::{Child, Gathered, sort_children, split_children};
@@ -40,13 +35,9 @@ struct Children {
 ///
 /// The tree must be one of fewer than 2^32 stacks, which cost at most 2^62 together.
 pub fn cost_lines(alloc: Global, tree: &CostTree, scale: Scale) -> Result<Vec<CostLine>, NoMemory>
-    requires tree { (stacks : List Costed) × (depth : ℕ) × HasLines tree.now stacks depth }
-    ensures lines { IfOk result
-        (λ lines. (stacks : List Costed) (depth : ℕ) → HasLines tree.now stacks depth →
-        map (line_at tree.now) lines.items ≡ cost_lines depth scale stacks) }
-    ensures each { IfOk result
-        (λ lines. (stacks : List Costed) (depth : ℕ) → HasLines tree.now stacks depth →
-        All (IsLineOf tree.now stacks depth) lines.items) }
+    requires tree { GivesLines tree.now }
+    ensures lines { IfOk result (λ lines. StandForAll scale tree.now lines.items) }
+    ensures each { IfOk result (λ lines. AreInTree tree.now lines.items) }
 {
     let mut lines = Vec::new(alloc);
     take_lines(alloc, tree, scale, &mut lines)?;
@@ -60,11 +51,9 @@ pub fn take_lines<T: CostLineTaker>(
     scale: Scale,
     taker: &mut T,
 ) -> Result<(), NoMemory>
-    requires tree { (stacks : List Costed) × (depth : ℕ) × HasLines tree.now stacks depth }
+    requires tree { GivesLines tree.now }
     requires none_yet { T.takes tree.now taker.old [] taker.old }
-    ensures taken { OnOk result
-        ((lines : List CostLine) × AreLinesOf scale tree.now lines
-        × T.takes tree.now taker.old lines taker.new) }
+    ensures taken { OnOk result (TakesLines T.takes scale tree.now taker.old taker.new) }
 {
     let mut children = Children {
         nodes: Vec::new(alloc),
@@ -118,13 +107,10 @@ fn push_children(
     children: &mut Children,
     pending: &mut Vec<Pending>,
 ) -> Result<u32, NoMemory>
-    requires held { node < length tree.now.nodes }
-    requires within { sum_by (cost_at tree.now) (children_of tree.now.nodes node) ≤ 2 ^ 62 }
-    requires few { length (children_of tree.now.nodes node) < 2 ^ 32 }
+    requires few { HasFewChildren tree.now node }
     ensures appended { OnOk result
-        (pending.new.items ≡ pending.old.items ++ pending_children scale tree.now level node) }
-    ensures count { IfOk result
-        (λ count. count ≡ length (pending_children scale tree.now level node)) }
+        (AddsChildren scale tree.now level node pending.old.items pending.new.items) }
+    ensures count { IfOk result (λ count. count ≡ child_lines scale tree.now level node) }
 {
     match tree.child_nodes(node) {
         ChildNodes::None => Ok(0),
@@ -164,13 +150,10 @@ fn push_several(
     children: &mut Children,
     pending: &mut Vec<Pending>,
 ) -> Result<u32, NoMemory>
-    requires held { node < length tree.now.nodes }
-    requires within { sum_by (cost_at tree.now) (children_of tree.now.nodes node) ≤ 2 ^ 62 }
-    requires few { length (children_of tree.now.nodes node) < 2 ^ 32 }
+    requires few { HasFewChildren tree.now node }
     ensures appended { OnOk result
-        (pending.new.items ≡ pending.old.items ++ pending_children scale tree.now level node) }
-    ensures count { IfOk result
-        (λ count. count ≡ length (pending_children scale tree.now level node)) }
+        (AddsChildren scale tree.now level node pending.old.items pending.new.items) }
+    ensures count { IfOk result (λ count. count ≡ child_lines scale tree.now level node) }
 {
     let before = pending.len();
     push_shown(tree, scale, level, node, children, pending)?;
@@ -186,10 +169,9 @@ fn push_shown(
     children: &mut Children,
     pending: &mut Vec<Pending>,
 ) -> Result<(), NoMemory>
-    requires held { node < length tree.now.nodes }
-    requires within { sum_by (cost_at tree.now) (children_of tree.now.nodes node) ≤ 2 ^ 62 }
+    requires few { HasFewChildren tree.now node }
     ensures appended { OnOk result
-        (pending.new.items ≡ pending.old.items ++ pending_children scale tree.now level node) }
+        (AddsChildren scale tree.now level node pending.old.items pending.new.items) }
 {
     tree.children_into(node, &mut children.nodes)?;
     children.kept.clear();
@@ -229,8 +211,7 @@ fn push_kept(
     pending: &mut Vec<Pending>,
 ) -> Result<(), NoMemory>
     ensures appended { OnOk result
-        (pending.new.items ≡ pending.old.items
-        ++ reverse (map (pending_child level) kept.old.items)) }
+        (pending.new.items ≡ pending.old.items ++ pending_of level kept.old.items) }
 {
     'each_child: while let Some(child) = kept.pop() {
         pending.push(Pending::Below {

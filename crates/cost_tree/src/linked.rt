@@ -1,8 +1,6 @@
 //! The nodes of a tree with the links to their children, by the numbers of a shape.
-ghost use Rattle.std.specs.Prelude.{◌≡◌, ℕ, ◌+◌, ◌<◌, List, Some, length, slice_get, IfOk};
-ghost use Rattle.cost_tree.specs.declared.node.CostNode.{CostNode};
-ghost use Rattle.cost_tree.specs.Costed.{Costed};
-ghost use Rattle.cost_tree.specs.TreeParts.{IsLinkedTree, IsTree};
+ghost use Rattle.std.specs.Prelude.{IfOk};
+ghost use Rattle.cost_tree.specs.TreeParts.{IsRooted, KeepsTree};
 
 use crate::branches::Branches;
 use crate::links::{Link, Links};
@@ -27,15 +25,8 @@ impl Linked {
         links: Vec<Link>,
         branches: Branches,
     ) -> Result<Linked, NoMemory>
-        requires count { length branches.nodes.items ≡ length branches.edges.items + 1 }
-        requires lower { (n : ℕ) (node : CostNode)
-            → 0 < n
-            → slice_get branches.nodes.items n ≡ Some node
-            → node.parent < n }
-        ensures tree { IfOk result
-            (λ linked. (names : List (List ℕ)) (stacks : List Costed) (depth : ℕ)
-            → IsTree names branches.edges.items branches.nodes.items stacks depth
-            → IsLinkedTree names linked stacks depth) }
+        requires rooted { IsRooted branches }
+        ensures tree { IfOk result (KeepsTree branches) }
     {
         let links = Links::of(links, &branches.edges, &branches.nodes)?;
         let mut room = branches;

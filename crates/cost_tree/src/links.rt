@@ -1,8 +1,7 @@
 //! What a walk over a tree reads of a node, side by side: what it costs, its text, and the links from a node to its first child and
 //! from a child to the next. A walk goes to nodes that are far from one another, and fetches one place of memory for each so.
-ghost use Rattle.std.specs.Prelude.{◌≡◌, ℕ, ◌+◌, ◌<◌, length, replicate, Some, IfOk, slice_get, slice_index};
-ghost use Rattle.cost_tree.specs.declared.node.CostNode.{CostNode};
-ghost use Rattle.cost_tree.specs.Children.{AreLinks};
+ghost use Rattle.std.specs.Prelude.{◌≡◌, ◌+◌, ◌<◌, length, replicate, IfOk, slice_index};
+ghost use Rattle.cost_tree.specs.Children.{AreBehindParents, AreLinks};
 ghost use Rattle.cost_tree.specs.NodeLinks.{AreBeside, AreNodeLinks, costs_in, firsts_in, nexts_in, texts_in};
 
 use crate::edge::Edge;
@@ -32,8 +31,7 @@ impl Links {
     /// n - 1. They are made in the vector of the room.
     pub(crate) fn of(room: Vec<Link>, edges: &[Edge], nodes: &[CostNode]) -> Result<Links, NoMemory>
         requires count { length nodes.now ≡ length edges.now + 1 }
-        requires lower { (n : ℕ) (node : CostNode) → 0 < n → slice_get nodes.now n ≡ Some node
-            → node.parent < n }
+        requires lower { AreBehindParents nodes.now }
         ensures links { IfOk result (λ links. AreNodeLinks edges.now nodes.now links.links.items) }
     {
         let mut links = unlinked(room, edges, nodes)?;
@@ -106,8 +104,7 @@ fn alone(cost: u64, text: usize) -> Link
 /// Links the nodes, none of which has links yet.
 fn link_up(nodes: &[CostNode], links: &mut Vec<Link>)
     requires some { 0 < length nodes.now }
-    requires lower { (n : ℕ) (node : CostNode) → 0 < n → slice_get nodes.now n ≡ Some node
-        → node.parent < n }
+    requires lower { AreBehindParents nodes.now }
     requires none { firsts_in links.old.items ≡ replicate (length nodes.now) 0 }
     ensures costs { costs_in links.new.items ≡ costs_in links.old.items }
     ensures texts { texts_in links.new.items ≡ texts_in links.old.items }

@@ -1,10 +1,9 @@
 //! Lists of numbers that share their fronts: a front is kept once, as a node, and a list as the node where it ends.
 //! What the numbers stand for, and what the lists cost, are no part of it.
 ghost use Rattle.std.specs.Prelude.{◌≡◌, ◌≢◌, ℕ, ◌+◌, ◌-◌, ◌^◌, ◌<◌, ◌≤◌, List, [], ◌∷◌, ◌++◌, length, map, sum, IfOk, OnOk, OnErr};
-ghost use Rattle.cost_tree.specs.declared.edge.Edge.{Edge};
 ghost use Rattle.cost_tree.specs.CutShapes.{equal_cost};
-ghost use Rattle.cost_tree.specs.Shapes.{IsChild};
-ghost use Rattle.cost_tree.specs.GrowingLists.{caller_list};
+ghost use Rattle.cost_tree.specs.Shapes.{IsNodeBy};
+ghost use Rattle.cost_tree.specs.GrowingLists.{HasBegun, LastGets};
 
 use crate::edge::Edge;
 use crate::edges::Edges;
@@ -71,8 +70,7 @@ impl Shape {
     pub(crate) fn begin_with(&mut self, caller: u32) -> Result<(), NoMemory>
         requires held { caller ≢ 0 → caller < length self.old }
         requires few { length self.old < 2 ^ 32 - 1 }
-        ensures appended { OnOk result
-            (self.new ≡ self.old ++ caller_list self.old caller ∷ []) }
+        ensures appended { OnOk result (HasBegun self.old caller self.new) }
     {
         if caller == 0 {
             self.begin()?;
@@ -86,10 +84,7 @@ impl Shape {
     /// Appends the number to the last list, of which there must be one. On `NoMemory` the lists are as before.
     pub fn push(&mut self, number: usize) -> Result<(), NoMemory>
         requires begun { 0 < length self.old }
-        ensures appended { OnOk result
-            ((earlier : List (List ℕ)) (last : List ℕ)
-            → self.old ≡ earlier ++ last ∷ []
-            → self.new ≡ earlier ++ (last ++ number ∷ []) ∷ []) }
+        ensures appended { OnOk result (LastGets self.old number self.new) }
         ensures count { length self.new ≡ length self.old }
         ensures unchanged { OnErr result (self.new ≡ self.old) }
     {
@@ -127,9 +122,7 @@ impl Shape {
 /// more.
 fn child_of(edges: &mut Edges, parent: usize, number: usize) -> Result<usize, NoMemory>
     requires held { parent ≤ length edges.old.keys }
-    ensures child { IfOk result
-        (λ n. (place : ℕ) × (n ≡ place + 1)
-        × IsChild edges.old.keys edges.new.keys (record { parent = parent; text = number }) place) }
+    ensures child { IfOk result (IsNodeBy edges.old.keys edges.new.keys parent number) }
     ensures unchanged { OnErr result (edges.new.keys ≡ edges.old.keys) }
 {
     let place = edges.insert(Edge {

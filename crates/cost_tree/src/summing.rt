@@ -1,8 +1,8 @@
 //! What nodes cost with those below them.
-ghost use Rattle.std.specs.Prelude.{◌≡◌, ℕ, ◌^◌, ◌<◌, length, Some, slice_get, sum_by};
-ghost use Rattle.cost_tree.specs.declared.node.CostNode.{CostNode};
+ghost use Rattle.std.specs.Prelude.{◌^◌, ◌<◌, length, sum_by};
 ghost use Rattle.cost_tree.specs.Growth.{weight};
 ghost use Rattle.cost_tree.specs.Summed.{AreSums};
+ghost use Rattle.cost_tree.specs.Children.{AreBehindParents};
 
 use crate::node::CostNode;
 
@@ -10,10 +10,7 @@ use crate::node::CostNode;
 /// is.
 pub(crate) fn sum_up(nodes: &mut Vec<CostNode>)
     requires some { 0 < length nodes.old.items }
-    requires lower { (n : ℕ) (node : CostNode)
-        → 0 < n
-        → slice_get nodes.old.items n ≡ Some node
-        → node.parent < n }
+    requires lower { AreBehindParents nodes.old.items }
     requires within { sum_by weight nodes.old.items < 2 ^ 64 }
     ensures sums { AreSums nodes.old.items nodes.new.items }
 {

@@ -1,12 +1,11 @@
 //! Lists of texts that are cut where they go on alone, and the lines of their texts behind that.
 //! Which fronts several lists share, and what they cost, is no part of it.
-ghost use Rattle.std.specs.Prelude.{◌≡◌, ◌+◌, ◌<◌, ◌++◌, if◌then◌else◌, nat_lt, List, Some, length, true, IfSome, OnOk};
-ghost use Rattle.cost_tree.specs.CostLines.{FrontLine};
+ghost use Rattle.std.specs.Prelude.{◌≡◌, ◌+◌, ◌<◌, if◌then◌else◌, nat_lt, length, true, IfSome, OnOk};
 ghost use Rattle.cost_tree.specs.IsShownAs.{IsShownAs};
-ghost use Rattle.cost_tree.specs.Tails.{goes_on, going_on, tail_line, tail_lines, with_tail};
-ghost use Rattle.cost_tree.specs.Texts.{lists_of, texts_of};
+ghost use Rattle.cost_tree.specs.Tails.{goes_on, tail_line};
+ghost use Rattle.cost_tree.specs.Texts.{texts_of};
 ghost use Rattle.cost_tree.specs.TreeLines.{IsPlace};
-ghost use Rattle.cost_tree.specs.TreeTails.{first_at};
+ghost use Rattle.cost_tree.specs.TreeTails.{TakesTail, TakesWithTail, list_behind};
 
 use crate::chains::Chains;
 use crate::front_line_taker::FrontLineTaker;
@@ -30,9 +29,7 @@ impl<'a> CutLists<'a> {
     /// The list that goes on alone from the front of a line, if one does.
     pub(crate) fn going_on(&self, tree: &CostTree, line: CostLine) -> Option<u32>
         requires place { IsPlace tree.now line.place }
-        ensures list { result
-            ≡ going_on self.now.depth self.now.whole.now self.now.counts.now
-            (first_at tree.now line.place) line.level }
+        ensures list { result ≡ list_behind self.now tree.now line }
         ensures held { IfSome result (λ list. list < length self.now.whole.now) }
     {
         let Place::Node { node } = line.place else {
@@ -74,12 +71,7 @@ impl<'a> CutLists<'a> {
     ) -> Result<(), NoMemory>
         requires held { list < length self.now.whole.now }
         ensures taken { OnOk result
-            ((front_line : FrontLine) (first : T) (lines : List FrontLine)
-            → IsShownAs self.now.names.now line.entry front_line
-            → T.takes self.now.names.now first lines taker.old
-            → T.takes self.now.names.now first
-            (lines ++ with_tail self.now.depth (lists_of self.now.names.now self.now.whole.now)
-            (Some list) front_line) taker.new) }
+            (TakesWithTail T.takes self.now list line.entry taker.old taker.new) }
     {
         self.whole.list_into(list, self.depth, numbers)?;
         let ShownLine {
@@ -107,9 +99,7 @@ fn take_tail<T: FrontLineTaker>(
     taker: &mut T,
 ) -> Result<(), NoMemory>
     ensures taken { OnOk result
-        ((first : T) (lines : List FrontLine) → T.takes names.now first lines taker.old
-        → T.takes names.now first
-        (lines ++ tail_lines (texts_of names.now numbers.now) cost count) taker.new) }
+        (TakesTail T.takes names.now numbers.now cost count taker.old taker.new) }
 {
     'each_text: for place in count..numbers.len() {
         taker.take_line(tail_line(names, numbers, cost, place))?;

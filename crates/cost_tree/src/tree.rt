@@ -1,16 +1,15 @@
 //! The tree of inclusive costs, and what its nodes say.
 //! How its nodes are made is in `linked`.
-ghost use Rattle.std.specs.Prelude.{◌≡◌, ℕ, ◌+◌, ◌^◌, ◌<◌, ◌≤◌, List, [], ◌∷◌, ◌++◌, length, sum, Some, IfOk, OnOk, OnErr, IsOk, AllPairs, Contains, slice_get, vec_capacity};
-ghost use Rattle.cost_tree.specs.declared.node.CostNode.{CostNode};
+ghost use Rattle.std.specs.Prelude.{◌≡◌, ◌+◌, ◌^◌, ◌<◌, ◌≤◌, [], ◌++◌, length, sum, Some, IfOk, OnOk, OnErr, IsOk, AllPairs, slice_get, vec_capacity};
 ghost use Rattle.cost_tree.specs.ChildNodes.{AreChildNodes};
-ghost use Rattle.cost_tree.specs.Children.{children_of};
+ghost use Rattle.cost_tree.specs.Children.{HasAllChildren, HasOnlyChildren, children_of};
 ghost use Rattle.cost_tree.specs.Costed.{costed};
-ghost use Rattle.cost_tree.specs.Costs.{AreCosts};
+ghost use Rattle.cost_tree.specs.Costs.{HasCosts, IsStated};
 ghost use Rattle.cost_tree.specs.IsTreeOf.{IsTreeOf};
 ghost use Rattle.cost_tree.specs.CostLines.{last_of};
 ghost use Rattle.cost_tree.specs.Texts.{AreTexts, lists_of, text_of};
 ghost use Rattle.cost_tree.specs.Shares.{cost_at};
-ghost use Rattle.cost_tree.specs.TreeLines.{HasLines, front_at};
+ghost use Rattle.cost_tree.specs.TreeLines.{EndsFront, HasLines, HasLinesOfStated, IsTreeOfStated, LengthensFront, front_at};
 
 use crate::branches::Branches;
 use crate::caller_lists::CallerLists;
@@ -61,16 +60,11 @@ impl<'a> CostTree<'a> {
         depth: u32,
     ) -> Result<CostTree<'a>, NoMemory>
         requires as_many { costing.now.stacks ≡ length fronts.now }
-        requires stated { (costs : List ℕ)
-            × AreCosts (F.pre costing.now.cost) (F.post costing.now.cost) costing.now.stacks costs }
+        requires stated { IsStated F.pre F.post costing.now }
         ensures tree { IfOk result
-            (λ tree. (costs : List ℕ)
-            → AreCosts (F.pre costing.now.cost) (F.post costing.now.cost) costing.now.stacks costs
-            → IsTreeOf tree (costed fronts.now costs) depth) }
+            (IsTreeOfStated (HasCosts F.pre F.post costing.now) fronts.now depth) }
         ensures lines { IfOk result
-            (λ tree. (costs : List ℕ)
-            → AreCosts (F.pre costing.now.cost) (F.post costing.now.cost) costing.now.stacks costs
-            → HasLines tree (costed fronts.now costs) depth) }
+            (HasLinesOfStated (HasCosts F.pre F.post costing.now) fronts.now depth) }
     {
         let costs = costing.list(alloc)?;
         CostTree::of_costs(alloc, fronts, &costs, depth)
@@ -86,12 +80,9 @@ impl<'a> CostTree<'a> {
         room: &mut TreeRoom,
     ) -> Result<CostTree<'a>, NoMemory>
         requires as_many { costing.now.stacks ≡ length fronts.now.cut }
-        requires stated { (costs : List ℕ)
-            × AreCosts (F.pre costing.now.cost) (F.post costing.now.cost) costing.now.stacks costs }
+        requires stated { IsStated F.pre F.post costing.now }
         ensures lines { IfOk result
-            (λ tree. (costs : List ℕ)
-            → AreCosts (F.pre costing.now.cost) (F.post costing.now.cost) costing.now.stacks costs
-            → HasLines tree (costed fronts.now.cut costs) depth) }
+            (HasLinesOfStated (HasCosts F.pre F.post costing.now) fronts.now.cut depth) }
     {
         let TreeRoom { costs, nodes, .. } = room;
         costing.list_into(costs)?;
@@ -221,13 +212,8 @@ impl<'a> CostTree<'a> {
     pub fn text(&self, n: usize) -> &[u8]
         requires held { n < length self.now.nodes }
         ensures root { n ≡ 0 → result.now ≡ [] }
-        ensures last { 0 < n
-            → (front : List (List ℕ))
-            × (slice_get self.now.fronts n ≡ Some (front ++ result.now ∷ [])) }
-        ensures below { (node : CostNode) (front : List (List ℕ)) → 0 < n
-            → slice_get self.now.nodes n ≡ Some node →
-            slice_get self.now.fronts node.parent ≡ Some front
-            → slice_get self.now.fronts n ≡ Some (front ++ result.now ∷ []) }
+        ensures last { 0 < n → EndsFront self.now n result.now }
+        ensures below { LengthensFront self.now n result.now }
     {
         if n == 0 {
             return &[];
@@ -262,13 +248,8 @@ impl<'a> CostTree<'a> {
     pub fn children_into(&self, n: usize, out: &mut Vec<usize>) -> Result<(), NoMemory>
         requires held { n < length self.now.nodes }
         ensures children { OnOk result (out.new.items ≡ children_of self.now.nodes n) }
-        ensures all { OnOk result
-            ((m : ℕ) (node : CostNode) → 0 < m → slice_get self.now.nodes m ≡ Some node
-            → node.parent ≡ n → Contains out.new.items m) }
-        ensures only { OnOk result
-            ((m : ℕ) → Contains out.new.items m
-            → (node : CostNode) × (0 < m) × (slice_get self.now.nodes m ≡ Some node)
-            × (node.parent ≡ n)) }
+        ensures all { OnOk result (HasAllChildren self.now.nodes n out.new.items) }
+        ensures only { OnOk result (HasOnlyChildren self.now.nodes n out.new.items) }
         ensures order { OnOk result (AllPairs (λ older younger. older < younger) out.new.items) }
         ensures unchanged { OnErr result (out.new.items ≡ out.old.items) }
     {

@@ -13,11 +13,12 @@ use Rattle.ht_print.specs.FlameCosts.{flame_costs}
 use Rattle.ht_print.specs.HasGroups.{has_groups}
 use Rattle.ht_print.specs.IsEntry.{IsEntry}
 use Rattle.ht_print.specs.PlacedStacks as placed_stacks
-use Rattle.ht_print.specs.Places.{HavePlaces}
+use Rattle.ht_print.specs.Places.{HavePlaces, TellPlaces}
 use Rattle.ht_print.specs.ReportGroups.{place_of}
 use Rattle.ht_print.specs.ReportLines as lines
 use Rattle.ht_print.specs.ReportText as text
 use Rattle.ht_print.specs.Suppressed.{suppressed_stacks}
+use Rattle.std.specs.List.{flat_map}
 
 -- the places are made where a report has groups, and where a section that is written has them
 abbrev pub HasReportPlaces : Layout → Type 0
@@ -25,6 +26,10 @@ HasReportPlaces layout = HavePlaces (has_groups layout.options) layout.tables.no
 
 abbrev pub HasSectionPlaces : Layout → Type 0
 HasSectionPlaces layout = HavePlaces layout.options.merge layout.tables.now layout.places.now
+
+-- the numbers of its places tell the texts of its tables' stacks apart
+abbrev pub TellsPlaces : Layout → Type 0
+TellsPlaces layout = TellPlaces layout.tables.now layout.places.now
 
 -- these are the answers for the stacks of its tables
 abbrev pub HasSuppressed : Layout → List Bool → Type 0
@@ -51,6 +56,10 @@ pub record AreStacks (layout : Layout) (scale : Scale) (stacks : List Entry) : T
 abbrev pub wanted_section : Layout → PeakState → Section → List ℕ
 wanted_section layout peaks section = text.wanted_section layout.options layout.tables.now
     (λ cost. flame_costs cost peaks) section
+
+-- those of the sections that are asked for, one after the other
+abbrev pub wanted_sections : Layout → PeakState → List Section → List ℕ
+wanted_sections layout peaks sections = flat_map (wanted_section layout peaks) sections
 
 abbrev pub section_text : Layout → Section → List ℕ → List ℕ
 section_text layout section figures = text.section_text layout.options layout.tables.now section

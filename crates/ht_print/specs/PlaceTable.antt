@@ -1,7 +1,7 @@
 -- The table of places: texts in buckets, and the instructions whose places are known, for private
 -- clauses.
 use Rattle.std.specs.Prelude.{◌≡◌, ◌≢◌, ℕ, suc, ◌+◌, ◌*◌, ◌%◌, ◌-◌, ◌^◌, ◌<◌, ◌≤◌, All, List, [], ◌∷◌, Some, length}
-use Rattle.std.specs.Prelude.{map, slice_get, slice_index}
+use Rattle.std.specs.Prelude.{map, slice_get, slice_index, ◌++◌}
 use Rattle.intern_tables.specs.Distinct.{AreDistinct}
 use Rattle.ht_trace.specs.declared.frame.Style.TheVariants.{Plain}
 use Rattle.ht_trace.specs.FrameText.{frame_text}
@@ -94,3 +94,8 @@ pub record CanNumber (tables : TableState) (table : PlaceTable) (stack : ℕ) : 
   pub held : stack ≤ length tables.nodes
   pub few : length table.stacks.items < 2 ^ 32 - 1
   pub is : IsTable tables table
+
+-- a stack is added as the one of a new number
+pub record HasAdded (stack : ℕ) (old new : PlaceTable) (number : ℕ) : Type 0 where
+  pub number_is : number ≡ length old.stacks.items
+  pub stacks : new.stacks.items ≡ old.stacks.items ++ stack ∷ []

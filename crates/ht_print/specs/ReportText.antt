@@ -6,6 +6,7 @@
 -- section of leaks says in a line how many bytes suppressed stacks have live at the end, where they
 -- have some.
 use Rattle.std.specs.Prelude.{ℕ, ◌==◌, ◌+◌, Bool, List, [], ◌∷◌, ◌++◌, codes, decimal, length, sum, if◌then◌else◌}
+use Rattle.std.specs.Prelude.{Result}
 use Rattle.std.specs.List.{flat_map}
 use Rattle.ht_trace.specs.TableState.{TableState}
 use Rattle.live_ledger.specs.declared.event.Event.{Event}
@@ -22,6 +23,10 @@ use Rattle.ht_print.specs.ReportOrder.{ordered_stacks}
 use Rattle.ht_print.specs.Sections.{all_sections, cost_of, heading_of, is_wanted, leaves_out, unit_of}
 use Rattle.ht_print.specs.SummaryText.{summary_text}
 use Rattle.ht_print.specs.Suppressed.{suppressed_stacks}
+use Rattle.std.specs.Global.{Vec}
+use Rattle.peak_costs.specs.Peak.{StandsFor}
+use Rattle.peak_costs.specs.PeakState.{PeakState}
+use Rattle.ht_print.specs.Appends.{AppendsFor}
 
 -- the figures with a 0 for each stack that is suppressed, and with a 0 for each that isn't
 abbrev pub unsuppressed : List Bool → List ℕ → List ℕ
@@ -88,3 +93,9 @@ report_of_trace options tables events =
     sections_text options tables (λ cost. trace_costs cost (length tables.nodes + 1) events) ++
     (wanted_histogram options events ++
     summary_text events)
+
+-- the report on a trace is appended, whichever events the peaks stand for
+abbrev pub AppendsReport : {E : Type 0} → PrintOptions → TableState → PeakState → Vec ℕ → Vec ℕ
+    → Result (Unit {0}) E → Type 0
+AppendsReport options tables peaks before after result =
+    AppendsFor (StandsFor peaks) (report_of_trace options tables) before after result

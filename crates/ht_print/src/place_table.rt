@@ -1,7 +1,7 @@
 //! The table of places: the texts of innermost frames, each with a number. Texts are told apart by making them again from a
 //! stack that has them, so that none is kept.
-ghost use Rattle.std.specs.Prelude.{◌≡◌, ◌-◌, ◌^◌, ◌<◌, ◌≤◌, ◌++◌, ◌∷◌, [], IfNone, IfOk, IfSome, OnOk, length};
-ghost use Rattle.ht_print.specs.PlaceTable.{CanNumber, HasName, HasOneMore, HasPlace, IsBucket, IsTable, KeepsNames, LacksName, bucket_of};
+ghost use Rattle.std.specs.Prelude.{◌≡◌, ◌-◌, ◌^◌, ◌<◌, ◌≤◌, IfNone, IfOk, IfSome, OnOk, length};
+ghost use Rattle.ht_print.specs.PlaceTable.{CanNumber, HasAdded, HasName, HasOneMore, HasPlace, IsBucket, IsTable, KeepsNames, LacksName, bucket_of};
 ghost use Rattle.ht_print.specs.ReportGroups.{place_of};
 
 use hp_num::NoMemory;
@@ -119,8 +119,7 @@ impl PlaceTable {
         requires bucket { IsBucket tables.now (place_of tables.now stack) bucket }
         requires new { LacksName tables.now self.old (place_of tables.now stack) }
         ensures table { OnOk result (IsTable tables.now self.new) }
-        ensures number { IfOk result (λ number. number ≡ length self.old.stacks.items) }
-        ensures stacks { OnOk result (self.new.stacks.items ≡ self.old.stacks.items ++ stack ∷ []) }
+        ensures added { IfOk result (HasAdded stack self.old self.new) }
         ensures one_more { HasOneMore self.old self.new }
     {
         let number = self.stacks.len() as u32;

@@ -3,15 +3,14 @@
 #![tactic(auto, using(hp_num::proofs::Laws::extends_same, hp_num::proofs::Laws::extends_more, hp_num::proofs::Laws::extends_trans))]
 
 ghost use Rattle.std.specs.Prelude.{◌≡◌, IfOk, OnErr};
-ghost use Rattle.std.specs.List.{flat_map};
 ghost use Rattle.hp_num.specs.Extends.{Extends};
 ghost use Rattle.ht_trace.specs.LedgerFits.{IsBeside};
 ghost use Rattle.peak_costs.specs.Peak.{StandsFor};
 ghost use Rattle.ht_print.specs.Appends.{Appends, AppendsFor};
 ghost use Rattle.ht_print.specs.HasGroups.{has_groups};
-ghost use Rattle.ht_print.specs.Layouts.{HasReportPlaces, HasSuppressed, wanted_histogram, wanted_section};
+ghost use Rattle.ht_print.specs.Layouts.{HasReportPlaces, HasSuppressed, wanted_histogram, wanted_section, wanted_sections};
 ghost use Rattle.ht_print.specs.Places.{HavePlaces};
-ghost use Rattle.ht_print.specs.ReportText.{report_of_trace};
+ghost use Rattle.ht_print.specs.ReportText.{AppendsReport};
 ghost use Rattle.ht_print.specs.Suppressed.{suppressed_stacks};
 
 use crate::costs::stack_costs;
@@ -42,8 +41,7 @@ pub fn put_report(
 ) -> Result<(), NoMemory>
     requires beside { IsBeside tables.now peaks.now.ledger }
     requires suppressed { suppressed.now ≡ suppressed_stacks tables.now }
-    ensures appended { AppendsFor (StandsFor peaks.now) (report_of_trace options.now tables.now)
-        out.old out.new result }
+    ensures appended { AppendsReport options.now tables.now peaks.now out.old out.new result }
     ensures unchanged { OnErr result (out.new.items ≡ out.old.items) }
 {
     let before = out.len();
@@ -65,8 +63,7 @@ fn put_parts(
 ) -> Result<(), NoMemory>
     requires beside { IsBeside tables.now peaks.now.ledger }
     requires suppressed { suppressed.now ≡ suppressed_stacks tables.now }
-    ensures appended { AppendsFor (StandsFor peaks.now) (report_of_trace options.now tables.now)
-        out.old out.new result }
+    ensures appended { AppendsReport options.now tables.now peaks.now out.old out.new result }
     ensures kept { OnErr result (Extends out.old.items out.new.items) }
 {
     // Says what holds of all peaks.
@@ -105,8 +102,8 @@ fn put_sections(
     requires beside { IsBeside layout.now.tables.now peaks.now.ledger }
     requires places { HasReportPlaces layout.now }
     requires suppressed { HasSuppressed layout.now suppressed.now }
-    ensures appended { Appends (flat_map (wanted_section layout.now peaks.now) sections.now)
-        out.old out.new result }
+    ensures appended { Appends (wanted_sections layout.now peaks.now sections.now) out.old out.new
+        result }
     ensures kept { Extends out.old.items out.new.items }
 {
     'each_section: for section in sections {

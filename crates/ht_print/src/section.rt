@@ -4,9 +4,8 @@
 ghost use Rattle.std.specs.Prelude.{◌≡◌, ◌^◌, ◌<◌, ◌≤◌, if◌then◌else◌, IfOk, length, sum};
 ghost use Rattle.hp_num.specs.Extends.{Extends};
 ghost use Rattle.ht_print.specs.Appends.{Appends};
-ghost use Rattle.ht_print.specs.Layouts.{AreEntries, AreFigures, AreStacks, HasSectionPlaces, HasSuppressed, groups_lines, merged_lines, section_body, section_lines, section_text, stacks_text};
+ghost use Rattle.ht_print.specs.Layouts.{AreEntries, AreFigures, AreStacks, HasSectionPlaces, HasSuppressed, TellsPlaces, groups_lines, merged_lines, section_body, section_lines, section_text, stacks_text};
 ghost use Rattle.ht_print.specs.PlacedStacks.{ArePlaced};
-ghost use Rattle.ht_print.specs.Places.{TellPlaces};
 ghost use Rattle.ht_print.specs.ReportText.{suppressed_line, unsuppressed};
 
 use crate::entry::{Entry, ordered_stacks};
@@ -162,7 +161,7 @@ fn put_merged(
     stacks: &[Entry],
     out: &mut Vec<u8>,
 ) -> Result<(), NoMemory>
-    requires places { TellPlaces layout.now.tables.now layout.now.places.now }
+    requires places { TellsPlaces layout.now }
     requires stacks { AreStacks layout.now scale stacks.now }
     ensures appended { Appends (merged_lines layout.now scale stacks.now) out.old out.new result }
     ensures kept { Extends out.old.items out.new.items }
@@ -181,7 +180,7 @@ fn put_groups(
     groups: &[Entry],
     out: &mut Vec<u8>,
 ) -> Result<(), NoMemory>
-    requires places { TellPlaces layout.now.tables.now layout.now.places.now }
+    requires places { TellsPlaces layout.now }
     requires placed { ArePlaced layout.now.places.now placed.now }
     requires entries { AreEntries layout.now scale placed.now.stacks.now }
     requires groups { AreEntries layout.now scale groups.now }

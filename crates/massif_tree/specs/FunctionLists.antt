@@ -4,7 +4,7 @@
 -- functions, and is ignored where the first of what is left is to be ignored. The trimmed list of a
 -- stack is the addressed texts of these frames, from the innermost on; a tree is built of its first
 -- texts, one more than it is deep.
-use Rattle.std.specs.Prelude.{ℕ, ◌+◌, false, Bool, List, drop, length, map, slice_get}
+use Rattle.std.specs.Prelude.{ℕ, ◌+◌, false, Bool, List, drop, length, map, slice_get, ◌≡◌}
 use Rattle.std.specs.List.{list_any, prefix_len, range_with_len}
 use Rattle.std.specs.Option.{option_map_or}
 use Rattle.std.specs.Str.{bytes_eq}
@@ -13,6 +13,10 @@ use Rattle.ht_trace.specs.declared.frame.Style.TheVariants.{Addressed}
 use Rattle.ht_trace.specs.FrameText.{frame_text, function_at}
 use Rattle.ht_trace.specs.StackFrames.{stack_frames}
 use Rattle.ht_trace.specs.TableState.{TableState}
+use Rattle.std.specs.Borrow.{Bor}
+use Rattle.std.specs.Fn.{Shared}
+use Rattle.cost_tree.specs.declared.frame_test.FrameTest.{FrameTest}
+use Rattle.cost_tree.specs.FrameTexts.{AreTexts, says}
 
 -- whether the frame has a function whose name is in the list; a frame without a function is in no list
 abbrev pub is_listed : TableState → List (List ℕ) → FrameAt → Bool
@@ -46,3 +50,21 @@ trimmed_lists tables alloc_fns = map (trimmed_texts tables alloc_fns)
 unfoldable pub trimmed_before : TableState → List (List ℕ) → ℕ → List (List (List ℕ))
 trimmed_before tables alloc_fns count = map (trimmed_texts tables alloc_fns)
     (range_with_len 0 count)
+
+-- a closure's answer on a frame is whether its list has the frame's function
+abbrev pub TellsListed : (List ℕ → Bool → Type 0) → TableState → FrameAt → Bool → Type 0
+TellsListed answers tables at answer = (texts : List (List ℕ)) → AreTexts answers texts
+    → answer ≡ is_listed tables texts at
+
+-- so many frames from the first on have functions of the list
+abbrev pub CountsListed : (List ℕ → Bool → Type 0) → TableState → List FrameAt → ℕ → Type 0
+CountsListed answers tables frames count = (texts : List (List ℕ)) → AreTexts answers texts
+    → count ≡ prefix_len (is_listed tables texts) frames
+
+-- by two tests the answer is whether stack n is ignored, whichever names they state
+abbrev pub IsIgnoredBy : {A I : Type 0} → Shared A (Bor (List ℕ) × Unit {0}) Bool
+    → Shared I (Bor (List ℕ) × Unit {0}) Bool → FrameTest A → FrameTest I → TableState → ℕ → Bool
+    → Type 0
+IsIgnoredBy a i alloc_fns ignore_fns tables n answer = (alloc_names ignore_names : List (List ℕ))
+    → AreTexts (says a alloc_fns) alloc_names → AreTexts (says i ignore_fns) ignore_names
+    → answer ≡ is_ignored tables alloc_names ignore_names n

@@ -5,6 +5,7 @@ use Rattle.cost_tree.specs.Texts.{text_of}
 use Rattle.massif_file.specs.TreeLine.{TreeLine}
 use Rattle.massif_tree.specs.Labels.{root_label}
 use Rattle.massif_tree.specs.MassifTree.{label_of}
+use Rattle.massif_file.specs.LabelledLines.{LabelledLines}
 
 -- number 0 has the empty label, the next ones have these texts, and `root` has the root's label
 pub record HoldTexts (texts : List (List ℕ)) (root : ℕ) (labels : List (List ℕ)) : Type 0 where
@@ -31,3 +32,8 @@ known_line children bytes labels label = record {
   bytes = bytes;
   label = slice_index_or labels label [];
 }
+
+-- such a line is added
+abbrev pub AddsLine : ℕ → ℕ → ℕ → LabelledLines → LabelledLines → Type 0
+AddsLine children bytes label old new =
+    new.lines ≡ old.lines ++ known_line children bytes old.labels label ∷ []

@@ -6,3 +6,4 @@ pub mod KnownLabels
 pub mod MassifTree
 pub mod IsShown
 pub mod LabelsIn
+pub mod TreeFacts

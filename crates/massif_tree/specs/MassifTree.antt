@@ -1,9 +1,9 @@
 -- The tree of a snapshot: what some stacks cost below each front of their texts. A line of a
 -- snapshot's tree is a line of the stacks' tree with a label: the front's last text, of the root
 -- one of its own, and of gathered places their number.
-use Rattle.std.specs.Prelude.{ℕ, List, [], ◌∷◌, map}
+use Rattle.std.specs.Prelude.{ℕ, List, [], ◌∷◌, map, ◌≡◌}
 use Rattle.cost_tree.specs.declared.scale.Scale.{Scale}
-use Rattle.cost_tree.specs.Costed.{Costed}
+use Rattle.cost_tree.specs.Costed.{Costed, costed}
 use Rattle.cost_tree.specs.CostLines.{FrontLine, Shown, a_front, gathered, cost_lines, last_of}
 use Rattle.massif_file.specs.TreeLine.{TreeLine}
 use Rattle.massif_tree.specs.declared.options.TreeOptions.{TreeOptions}
@@ -32,3 +32,9 @@ scale_of options total = record { total = total; threshold = options.threshold }
 unfoldable pub massif_tree : TreeOptions → ℕ → List Costed → List TreeLine
 massif_tree options total stacks = map (massif_line options.threshold)
     (cost_lines options.depth (scale_of options total) stacks)
+
+-- the lines are those of lists with the costs that a costing has
+abbrev pub AreLinesOfStated : (List ℕ → Type 0) → TreeOptions → ℕ → List (List (List ℕ))
+    → List TreeLine → Type 0
+AreLinesOfStated are_costs options total lists lines = (costs : List ℕ) → are_costs costs
+    → lines ≡ massif_tree options total (costed lists costs)

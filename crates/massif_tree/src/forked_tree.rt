@@ -1,10 +1,9 @@
 //! The lines of a snapshot's tree over lists of texts, each made of what `cost_tree` shows of it, with no tree beside it.
 //! Which places have lines of their own, and in which order, is `cost_tree`'s part.
-ghost use Rattle.std.specs.Prelude.{◌≡◌, ◌∷◌, [], ◌++◌, ℕ, List, length, IfOk, OnOk};
-ghost use Rattle.cost_tree.specs.Costed.{costed};
-ghost use Rattle.cost_tree.specs.Costs.{AreCosts};
-ghost use Rattle.massif_tree.specs.KnownLabels.{HoldTexts, IsLabelNumber, KeepTexts, known_line};
-ghost use Rattle.massif_tree.specs.MassifTree.{massif_tree};
+ghost use Rattle.std.specs.Prelude.{◌≡◌, [], ◌++◌, length, IfOk, OnOk};
+ghost use Rattle.cost_tree.specs.Costs.{HasCosts, IsStated};
+ghost use Rattle.massif_tree.specs.KnownLabels.{AddsLine, HoldTexts, IsLabelNumber, KeepTexts};
+ghost use Rattle.massif_tree.specs.MassifTree.{AreLinesOfStated};
 
 use crate::labels::{put_gathered_label, root_label};
 use crate::lines::labelled;
@@ -26,12 +25,9 @@ pub fn forked_lines<F: Fn(u32) -> u64>(
     total: u64,
 ) -> Result<Tree, NoMemory>
     requires as_many { costing.now.stacks ≡ length fronts.now }
-    requires stated { (costs : List ℕ)
-        × AreCosts (F.pre costing.now.cost) (F.post costing.now.cost) costing.now.stacks costs }
+    requires stated { IsStated F.pre F.post costing.now }
     ensures lines { IfOk result
-        (λ lines. (costs : List ℕ)
-        → AreCosts (F.pre costing.now.cost) (F.post costing.now.cost) costing.now.stacks costs
-        → lines ≡ massif_tree options.now total (costed fronts.now costs)) }
+        (AreLinesOfStated (HasCosts F.pre F.post costing.now) options.now total fronts.now) }
 {
     let scale = Scale {
         total,
@@ -133,8 +129,7 @@ fn push_known(
     label: usize,
 ) -> Result<(), NoMemory>
     ensures held { OnOk result (KeepTexts made.old.labels made.new.labels) }
-    ensures line { OnOk result
-        (made.new.lines ≡ made.old.lines ++ known_line children bytes made.old.labels label ∷ []) }
+    ensures line { OnOk result (AddsLine children bytes label made.old made.new) }
 {
     if label < made.label_count() {
         return made.push(children, bytes, label);

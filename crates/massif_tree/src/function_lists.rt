@@ -1,11 +1,9 @@
 //! The frames that allocation functions leave of a stack, and which stacks are ignored.
 //! The lists of names are asked as they come, and what a stack costs is no part of it.
-ghost use Rattle.std.specs.Prelude.{◌≡◌, ℕ, ◌≤◌, List, All, length, IfOk};
-ghost use Rattle.std.specs.Fn.{FnReturnsAt};
-ghost use Rattle.std.specs.List.{prefix_len};
-ghost use Rattle.cost_tree.specs.FrameTexts.{AreTexts};
+ghost use Rattle.std.specs.Prelude.{◌≤◌, All, length, IfOk};
+ghost use Rattle.cost_tree.specs.FrameTexts.{says};
 ghost use Rattle.ht_trace.specs.IsFrame.{IsFrame};
-ghost use Rattle.massif_tree.specs.FunctionLists.{is_ignored, is_listed};
+ghost use Rattle.massif_tree.specs.FunctionLists.{CountsListed, IsIgnoredBy, TellsListed};
 
 use crate::trimmed_fronts::own_frames_into;
 use cost_tree::FrameTest;
@@ -25,10 +23,8 @@ pub fn is_ignored<A: Fn(&[u8]) -> bool, I: Fn(&[u8]) -> bool>(
     requires held { stack ≤ length tables.now.nodes }
     requires alloc_callable { A.IsAlwaysCallable alloc_fns.now.test }
     requires ignore_callable { I.IsAlwaysCallable ignore_fns.now.test }
-    ensures ignored { IfOk result (λ answer. (alloc_names ignore_names : List (List ℕ)) →
-        AreTexts (FnReturnsAt A.Fn alloc_fns.now.test) alloc_names
-        → AreTexts (FnReturnsAt I.Fn ignore_fns.now.test) ignore_names →
-        answer ≡ is_ignored tables.now alloc_names ignore_names stack) }
+    ensures ignored { IfOk result
+        (IsIgnoredBy A.Fn I.Fn alloc_fns.now ignore_fns.now tables.now stack) }
 {
     own_frames_into(tables, stack, frames)?;
     let front = listed_front(tables, frames, alloc_fns);
@@ -49,10 +45,8 @@ fn is_whole_ignored<A: Fn(&[u8]) -> bool, I: Fn(&[u8]) -> bool>(
     requires held { stack ≤ length tables.now.nodes }
     requires alloc_callable { A.IsAlwaysCallable alloc_fns.now.test }
     requires ignore_callable { I.IsAlwaysCallable ignore_fns.now.test }
-    ensures ignored { IfOk result (λ answer. (alloc_names ignore_names : List (List ℕ)) →
-        AreTexts (FnReturnsAt A.Fn alloc_fns.now.test) alloc_names
-        → AreTexts (FnReturnsAt I.Fn ignore_fns.now.test) ignore_names →
-        answer ≡ is_ignored tables.now alloc_names ignore_names stack) }
+    ensures ignored { IfOk result
+        (IsIgnoredBy A.Fn I.Fn alloc_fns.now ignore_fns.now tables.now stack) }
 {
     tables.frames_into(stack, frames)?;
     let front = listed_front(tables, frames, alloc_fns);
@@ -70,8 +64,7 @@ pub(crate) fn listed_front<F: Fn(&[u8]) -> bool>(
 ) -> usize
     requires frames { All (λ at. IsFrame tables.now at) frames.now }
     requires callable { F.IsAlwaysCallable names.now.test }
-    ensures front { (texts : List (List ℕ)) → AreTexts (FnReturnsAt F.Fn names.now.test) texts
-        → result ≡ prefix_len (is_listed tables.now texts) frames.now }
+    ensures front { CountsListed (says F.Fn names.now) tables.now frames.now result }
     ensures within { result ≤ length frames.now }
 {
     'each_frame: for (place, at) in frames.iter().enumerate() {
@@ -90,8 +83,7 @@ pub(crate) fn is_listed<F: Fn(&[u8]) -> bool>(
 ) -> bool
     requires frame { IsFrame tables.now at.now }
     requires callable { F.IsAlwaysCallable names.now.test }
-    ensures listed { (texts : List (List ℕ)) → AreTexts (FnReturnsAt F.Fn names.now.test) texts
-        → result ≡ is_listed tables.now texts at.now }
+    ensures listed { TellsListed (says F.Fn names.now) tables.now at.now result }
 {
     match tables.frame_function(at) {
         Some(function) => names.of(function),

@@ -4,9 +4,9 @@ ghost use Rattle.std.specs.Prelude.{◌≡◌, ◌<◌, [], List, length, IfOk};
 ghost use Rattle.cost_tree.specs.Costed.{Costed};
 ghost use Rattle.cost_tree.specs.TreeLines.{front_at};
 ghost use Rattle.massif_file.specs.TreeLine.{line_of};
-ghost use Rattle.massif_tree.specs.IsShown.{IsShown};
+ghost use Rattle.massif_tree.specs.IsShown.{AreLinesOfShown, IsShown};
 ghost use Rattle.massif_tree.specs.LabelsIn.{line_in};
-ghost use Rattle.massif_tree.specs.MassifTree.{label_of, massif_tree};
+ghost use Rattle.massif_tree.specs.MassifTree.{label_of};
 
 use crate::labels::{put_gathered_label, root_label};
 use crate::options::TreeOptions;
@@ -26,9 +26,7 @@ pub fn tree_lines(
     total: u64,
 ) -> Result<Tree, NoMemory>
     requires tree { (stacks : List Costed) × IsShown tree.now stacks options.now.depth }
-    ensures lines { IfOk result
-        (λ lines. (stacks : List Costed) → IsShown tree.now stacks options.now.depth
-        → lines ≡ massif_tree options.now total stacks) }
+    ensures lines { IfOk result (AreLinesOfShown options.now total tree.now) }
 {
     // Says that the depth fits.
     let _depth = options.depth;

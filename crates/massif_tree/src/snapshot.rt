@@ -1,12 +1,8 @@
 //! The tree of a snapshot of a trace, over the stacks as they are trimmed.
 //! Which stacks are ignored, and so cost nothing, is said by the costs.
-ghost use Rattle.std.specs.Prelude.{◌≡◌, ℕ, ◌+◌, List, length, IfOk};
-ghost use Rattle.cost_tree.specs.Costed.{costed};
-ghost use Rattle.cost_tree.specs.Costs.{AreCosts};
-ghost use Rattle.ht_trace.specs.TableState.{TableState};
-ghost use Rattle.massif_tree.specs.FirstLists.{first_lists};
-ghost use Rattle.massif_tree.specs.FunctionLists.{trimmed_before};
-ghost use Rattle.massif_tree.specs.MassifTree.{massif_tree};
+ghost use Rattle.std.specs.Prelude.{◌≡◌, length, IfOk};
+ghost use Rattle.cost_tree.specs.Costs.{HasCosts, IsStated};
+ghost use Rattle.massif_tree.specs.FirstLists.{AreSnapshotLines};
 
 use crate::lines::tree_lines;
 use crate::options::TreeOptions;
@@ -28,15 +24,9 @@ pub fn snapshot_tree<F: Fn(u32) -> u64>(
     total: u64,
 ) -> Result<Tree, NoMemory>
     requires as_many { costing.now.stacks ≡ length fronts.old.whole }
-    requires stated { (costs : List ℕ)
-        × AreCosts (F.pre costing.now.cost) (F.post costing.now.cost) costing.now.stacks costs }
+    requires stated { IsStated F.pre F.post costing.now }
     ensures lines { IfOk result
-        (λ lines. (tables : TableState) (names : List (List ℕ)) (costs : List ℕ) →
-        fronts.old.whole
-        ≡ first_lists tables names (options.now.depth + 1) (length fronts.old.whole)
-        → AreCosts (F.pre costing.now.cost) (F.post costing.now.cost) costing.now.stacks costs →
-        lines ≡ massif_tree options.now total
-        (costed (trimmed_before tables names (length fronts.old.whole)) costs)) }
+        (AreSnapshotLines (HasCosts F.pre F.post costing.now) options.now total fronts.old.whole) }
     ensures whole { fronts.new.whole ≡ fronts.old.whole }
 {
     let scale = Scale {

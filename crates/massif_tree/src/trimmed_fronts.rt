@@ -1,16 +1,11 @@
 //! The trimmed lists of a trace's stacks, as far as a tree needs them: they are made once, and each tree is built of them. A
 //! stack's list is made of the texts of its own node, and goes on with that of the stack that it is called from, so texts are made
 //! once a node. What a stack costs, and what a tree says, are no part of it.
-ghost use Rattle.std.specs.Prelude.{◌≡◌, ◌≢◌, ◌==◌, ℕ, ◌+◌, ◌-◌, ◌^◌, ◌<◌, ◌≤◌, if◌then◌else◌, List, All, None, Some, [], ◌∷◌, ◌++◌, drop, false, true, length, map, slice_get, take, IfOk, IfSome, OnOk};
-ghost use Rattle.std.specs.Fn.{FnReturnsAt};
-ghost use Rattle.cost_tree.specs.Following.{following};
-ghost use Rattle.cost_tree.specs.FrameTexts.{AreTexts};
-ghost use Rattle.ht_trace.specs.declared.frame.Style.TheVariants.{Addressed};
-ghost use Rattle.ht_trace.specs.FrameText.{frame_text};
+ghost use Rattle.std.specs.Prelude.{◌≡◌, ◌≢◌, ◌==◌, ◌+◌, ◌-◌, ◌^◌, ◌<◌, ◌≤◌, if◌then◌else◌, All, None, Some, false, true, length, IfOk, IfSome, OnOk};
+ghost use Rattle.cost_tree.specs.FrameTexts.{says};
 ghost use Rattle.ht_trace.specs.IsFrame.{IsFrame};
-ghost use Rattle.ht_trace.specs.StackFrames.{outer_frames, stack_frames};
-ghost use Rattle.massif_tree.specs.FirstLists.{first_lists};
-ghost use Rattle.massif_tree.specs.Whole.{AddsList, AreSaidWhole, IsSaidWhole};
+ghost use Rattle.massif_tree.specs.FirstLists.{KeepsFirstLists};
+ghost use Rattle.massif_tree.specs.Whole.{AppendsFrom, AreSaidWhole, HasAdded, HasOneMore, HasOwnFrames, IsFlagOf, IsNextStack, IsSaidWhole};
 
 use crate::function_lists::{is_listed, listed_front};
 use crate::options::TreeOptions;
@@ -40,9 +35,7 @@ pub fn add_trimmed<A: Fn(&[u8]) -> bool>(
     requires held { length fronts.old ≤ length tables.now.nodes + 1 }
     requires callable { A.IsAlwaysCallable alloc_fns.now.test }
     ensures lists { OnOk result
-        ((names : List (List ℕ)) → AreTexts (FnReturnsAt A.Fn alloc_fns.now.test) names →
-        fronts.old ≡ first_lists tables.now names (options.now.depth + 1) (length fronts.old) →
-        fronts.new ≡ first_lists tables.now names (options.now.depth + 1) (length fronts.new)) }
+        (KeepsFirstLists (says A.Fn alloc_fns.now) tables.now options.now fronts.old fronts.new) }
     ensures count { OnOk result (length fronts.new ≡ length tables.now.nodes + 1) }
 {
     let most = options.depth as usize + 1;
@@ -68,17 +61,14 @@ fn add_stack<A: Fn(&[u8]) -> bool>(
     fronts: &mut CallChains,
     buffers: &mut Buffers,
 ) -> Result<bool, NoMemory>
-    requires held { stack ≤ length tables.now.nodes }
-    requires next { length fronts.old ≡ stack }
-    requires few { stack < 2 ^ 32 - 1 }
+    requires next { IsNextStack tables.now stack fronts.old }
     requires callable { A.IsAlwaysCallable alloc_fns.now.test }
-    requires known { AreSaidWhole (FnReturnsAt A.Fn alloc_fns.now.test) tables.now stack
+    requires known { AreSaidWhole (says A.Fn alloc_fns.now) tables.now stack
         buffers.old.whole.items }
-    ensures added { OnOk result (AddsList (FnReturnsAt A.Fn alloc_fns.now.test) tables.now most stack
-        fronts.old fronts.new) }
-    ensures count { OnOk result (length fronts.new ≡ length fronts.old + 1) }
+    ensures added { OnOk result
+        (HasAdded (says A.Fn alloc_fns.now) tables.now most stack fronts.old fronts.new) }
     ensures whole { IfOk result
-        (λ is. is ≡ true → IsSaidWhole (FnReturnsAt A.Fn alloc_fns.now.test) tables.now stack) }
+        (λ is. is ≡ true → IsSaidWhole (says A.Fn alloc_fns.now) tables.now stack) }
     ensures kept { buffers.new.whole.items ≡ buffers.old.whole.items }
 {
     let caller = own_frames_into(tables, stack, &mut buffers.frames)?;
@@ -122,10 +112,7 @@ pub(crate) fn own_frames_into(
     frames: &mut Vec<FrameAt>,
 ) -> Result<u32, NoMemory>
     requires held { stack ≤ length tables.now.nodes }
-    ensures frames { IfOk result
-        (λ caller. stack_frames tables.now.instructions tables.now.nodes stack
-        ≡ frames.new.items
-        ++ outer_frames tables.now.instructions tables.now.nodes caller) }
+    ensures frames { IfOk result (HasOwnFrames tables.now stack frames.new.items) }
     ensures lower { IfOk result (λ caller. caller ≢ 0 → caller < stack) }
     ensures places { OnOk result (All (λ at. IsFrame tables.now at) frames.new.items) }
 {
@@ -143,9 +130,7 @@ pub(crate) fn own_frames_into(
 
 /// What is kept of a stack: the flags are those of the stacks right before the next one.
 fn flag_of(whole: &[bool], next: u32, stack: u32) -> Option<bool>
-    ensures flag { IfSome result
-        (λ flag. (place : ℕ) × (place + next ≡ stack + length whole.now)
-        × (slice_get whole.now place ≡ Some flag)) }
+    ensures flag { IfSome result (IsFlagOf whole.now next stack) }
 {
     let place = (stack as usize + whole.len()).checked_sub(next as usize)?;
     whole.get(place).copied()
@@ -161,10 +146,9 @@ fn lacks_frames<A: Fn(&[u8]) -> bool>(
 ) -> bool
     requires held { caller ≤ length tables.now.nodes }
     requires callable { A.IsAlwaysCallable alloc_fns.now.test }
-    requires known { known ≡ Some true
-        → IsSaidWhole (FnReturnsAt A.Fn alloc_fns.now.test) tables.now caller }
-    ensures whole { result ≡ false → caller ≢ 0
-        → IsSaidWhole (FnReturnsAt A.Fn alloc_fns.now.test) tables.now caller }
+    requires known { known ≡ Some true → IsSaidWhole (says A.Fn alloc_fns.now) tables.now caller }
+    ensures whole { result ≡ false
+        → caller ≢ 0 → IsSaidWhole (says A.Fn alloc_fns.now) tables.now caller }
 {
     if caller == 0 {
         return false;
@@ -200,10 +184,8 @@ fn push_list(
     requires earlier { IfSome next (λ list. list < length fronts.old) }
     requires few { length fronts.old < 2 ^ 32 - 1 }
     ensures appended { OnOk result
-        (fronts.new ≡ fronts.old
-        ++ take most (map (frame_text Addressed tables.now) (drop front frames.now)
-        ++ following fronts.old next) ∷ []) }
-    ensures count { OnOk result (length fronts.new ≡ length fronts.old + 1) }
+        (AppendsFrom tables.now frames.now front most next fronts.old fronts.new) }
+    ensures count { OnOk result (HasOneMore fronts.old fronts.new) }
 {
     let form = ListForm {
         style: Style::Addressed,

@@ -7,6 +7,8 @@ use Rattle.massif_file.specs.declared.profile.Snap.{Snap}
 use Rattle.ms_print.specs.declared.bars.Bar.{Bar}
 use Rattle.ms_print.specs.declared.plot.Plot.{Plot}
 use Rattle.ms_print.specs.Bars.{bar_in, nearest_bar}
+use Rattle.ms_print.specs.declared.options.PageOptions.{PageOptions}
+use Rattle.ms_print.specs.Plots.{plot_of}
 
 -- '#' for a peak, '@' for a detailed snapshot, ':' for another
 abbrev pub sign_of : HeapTree → ℕ
@@ -24,3 +26,7 @@ cell_of None None y = 32
 -- the cell in column x and row y, both from 1
 abbrev pub cell_at : Plot → List Snap → ℕ → ℕ → ℕ
 cell_at plot snaps x y = cell_of (bar_in plot snaps x) (nearest_bar plot snaps x) y
+
+-- of the graph that a page with these options has of the snapshots
+abbrev pub page_cell : PageOptions → List Snap → ℕ → ℕ → ℕ
+page_cell options snaps x y = cell_at (plot_of options.x options.y snaps) snaps x y

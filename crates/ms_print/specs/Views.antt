@@ -43,3 +43,7 @@ line_of scale prefix lines entry = entry_line scale prefix (entry_bytes lines en
 
 abbrev pub lines_of : Scale → List TreeLine → List ℕ
 lines_of scale lines = entries_text scale [] (shown scale (children_at lines 0))
+
+-- the entries are those below an entry, behind a prefix of this length
+abbrev pub AreBelowIn : TreeView → ℕ → Entry → List Pending → Type 0
+AreBelowIn view indent entry entries = AreRootsIn view indent entries (below view entry)

@@ -3,8 +3,7 @@ ghost use Rattle.std.specs.Prelude.{◌≡◌, ◌≤◌, ◌<◌, All};
 ghost use Rattle.massif_file.specs.IsWritable.{IsWritable};
 ghost use Rattle.ms_print.specs.Bars.{nearest_bar};
 ghost use Rattle.ms_print.specs.BarSteps.{IsPlotted};
-ghost use Rattle.ms_print.specs.Cells.{cell_at, cell_of, sign_of};
-ghost use Rattle.ms_print.specs.Plots.{plot_of};
+ghost use Rattle.ms_print.specs.Cells.{cell_of, page_cell, sign_of};
 
 use crate::bars::{Bar, bar_in};
 use crate::options::PageOptions;
@@ -21,8 +20,7 @@ pub fn cell(options: &PageOptions, profile: &Profile, x: u32, y: u32) -> u8
     requires last_column { x ≤ options.now.x }
     requires first_row { 1 ≤ y }
     requires last_row { y ≤ options.now.y }
-    ensures { result ≡ cell_at (plot_of options.now.x options.now.y profile.now.snaps)
-        profile.now.snaps x y }
+    ensures { result ≡ page_cell options.now profile.now.snaps x y }
 {
     let plot = plot_of(options.x, options.y, &profile.snaps);
     let bar = bar_in(plot, &profile.snaps, x as usize);

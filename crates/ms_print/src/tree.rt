@@ -8,7 +8,7 @@ ghost use Rattle.ms_print.specs.Appends.{Appends};
 ghost use Rattle.ms_print.specs.Ends.{AreEnds, AreWhole};
 ghost use Rattle.ms_print.specs.Pendings.{IsHeld, bar_before, blank_below};
 ghost use Rattle.ms_print.specs.TreeText.{tree_text};
-ghost use Rattle.ms_print.specs.Views.{AreRootsIn, below, line_of, lines_of, what_of};
+ghost use Rattle.ms_print.specs.Views.{AreBelowIn, below, line_of, lines_of, what_of};
 
 use crate::children::{Entry, Pending, TreeView, children_into};
 use crate::ends::ends_of;
@@ -122,7 +122,7 @@ fn put_below(
     requires ends { AreEnds view.now.tree.now 0 view.now.ends.now }
     requires held { IsHeld view.now.tree.now entry }
     ensures roots { OnOk result
-        (AreRootsIn view.now (length prefix.now) children.new.items (below view.now entry)) }
+        (AreBelowIn view.now (length prefix.now) entry children.new.items) }
     ensures appended { Appends (blank_below (below view.now entry) prefix.now) out.old out.new result }
     ensures kept { Extends out.old.items out.new.items }
 {

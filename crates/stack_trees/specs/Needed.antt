@@ -4,7 +4,7 @@ use Rattle.std.specs.Prelude.{◌≡◌, ℕ, ◌==◌, ◌+◌, if◌then◌els
 use Rattle.std.specs.Prelude.{◌≢◌, ◌<◌}
 use Rattle.std.specs.List.{range_with_len}
 use Rattle.cost_tree.specs.Costed.{costed}
-use Rattle.cost_tree.specs.GrowingLists.{caller_list}
+use Rattle.cost_tree.specs.GrowingLists.{caller_list, LastGains}
 use Rattle.cost_tree.specs.IsTreeOf.{IsTreeOf}
 use Rattle.cost_tree.specs.TreeState.{TreeState}
 use Rattle.ht_trace.specs.declared.frame.FrameAt.{FrameAt}
@@ -12,7 +12,9 @@ use Rattle.ht_trace.specs.declared.frame.Style.{Style}
 use Rattle.ht_trace.specs.StackFrames.{outer_frames, stack_frames}
 use Rattle.ht_trace.specs.TableState.{TableState}
 use Rattle.stack_trees.specs.declared.direction.Direction.{Direction}
-use Rattle.stack_trees.specs.StackTexts.{lists_towards, stack_texts, towards}
+use Rattle.stack_trees.specs.StackTexts.{stack_texts, stacks_towards, towards}
+use Rattle.stack_trees.specs.declared.direction.Direction.TheVariants.{FromAllocation}
+use Rattle.stack_trees.specs.declared.list_form.ListForm.{ListForm}
 
 -- of a list its first texts, and none where the stack costs nothing
 abbrev pub needed : {X : Type 0} → ℕ → ℕ → List X → List X
@@ -42,4 +44,24 @@ pub record StandFor (direction : Direction) (style : Style) (tables : TableState
     (costs : List ℕ) (depth : ℕ) (fronts : List (List (List ℕ))) : Type 0 where
   pub count : length fronts ≡ length costs
   pub tree : (tree : TreeState) → IsTreeOf tree (costed fronts costs) depth
-      → IsTreeOf tree (costed (lists_towards direction style tables) costs) depth
+      → IsTreeOf tree (stacks_towards direction style tables costs) depth
+
+-- from the innermost frames on, in this form
+abbrev pub lists_needed : ListForm → TableState → List ℕ → List (List (List ℕ))
+lists_needed form tables costs = needed_lists FromAllocation form.style tables form.most costs
+
+-- the texts of a stack from its innermost frame on
+abbrev pub inner_texts : ListForm → TableState → ℕ → List (List ℕ)
+inner_texts form tables stack = towards FromAllocation (stack_texts form.style tables stack)
+
+-- the list of a stack with this cost is appended, as far as it is needed
+abbrev pub AppendsNeeded : ListForm → TableState → ℕ → ℕ → List (List (List ℕ))
+    → List (List (List ℕ)) → Type 0
+AppendsNeeded form tables stack cost old new =
+    new ≡ old ++ needed form.most cost (inner_texts form tables stack) ∷ []
+
+-- the last list has the first texts of a stack at its end too
+abbrev pub LastGainsStack : ListForm → TableState → ℕ → List (List (List ℕ))
+    → List (List (List ℕ)) → Type 0
+LastGainsStack form tables stack old new =
+    LastGains old (take form.most (inner_texts form tables stack)) new

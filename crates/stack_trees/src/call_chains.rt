@@ -1,12 +1,11 @@
 //! Lists of texts, as those of a trace's stacks: a stack's list is the texts of its own frames, and then that of the stack that
 //! it is called from.
 //! Which frames are its own, and what the lists cost, are the business of the callers.
-ghost use Rattle.std.specs.Prelude.{◌≡◌, ℕ, ◌-◌, ◌^◌, ◌<◌, ◌≤◌, All, List, [], ◌∷◌, ◌++◌, length, map, take, IfOk, IfSome, OnOk, OnErr};
-ghost use Rattle.cost_tree.specs.Following.{following};
+ghost use Rattle.std.specs.Prelude.{◌≡◌, ℕ, ◌-◌, ◌^◌, ◌<◌, ◌≤◌, All, List, [], length, IfOk, IfSome, OnOk, OnErr};
 ghost use Rattle.cost_tree.specs.Texts.{IsText, texts_of};
-ghost use Rattle.ht_trace.specs.FrameText.{frame_text};
 ghost use Rattle.ht_trace.specs.IsFrame.{IsFrame};
 ghost use Rattle.intern_tables.specs.Numbers.{name_at};
+ghost use Rattle.stack_trees.specs.StackTexts.{AppendsChain, frame_texts};
 
 use crate::list_form::ListForm;
 use cost_tree::{Chains, CutFronts};
@@ -67,9 +66,7 @@ impl CallChains {
         requires earlier { IfSome next (λ list. list < length self.old) }
         requires few { length self.old < 2 ^ 32 - 1 }
         ensures appended { OnOk result
-            (self.new ≡ self.old
-            ++ take form.most (map (frame_text form.style tables.now) frames.now
-            ++ following self.old next) ∷ []) }
+            (AppendsChain form tables.now frames.now next self.old self.new) }
         ensures unchanged { OnErr result (self.new ≡ self.old) }
     {
         let CallChains {
@@ -111,7 +108,7 @@ fn number_frames(
     requires frames { All (λ at. IsFrame tables.now at) frames.now }
     ensures names { OnOk result (All (IsText names.new) numbers.new.items) }
     ensures texts { OnOk result
-        (texts_of names.new numbers.new.items ≡ map (frame_text style tables.now) frames.now) }
+        (texts_of names.new numbers.new.items ≡ frame_texts style tables.now frames.now) }
     ensures names_stay { (n : ℕ) → n ≤ length names.old
         → name_at names.new n ≡ name_at names.old n }
     ensures none_lost { length names.old ≤ length names.new }

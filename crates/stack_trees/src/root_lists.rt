@@ -1,12 +1,10 @@
 //! The lists of texts of a trace's stacks from their outermost frames on: a stack's list is that of the stack that it is called
 //! from, and the texts of its own node. So texts are made once a node.
-ghost use Rattle.std.specs.Prelude.{◌≡◌, ◌+◌, ◌-◌, ◌^◌, ◌<◌, ◌≤◌, [], All, length, map, reverse, IfOk, OnOk};
-ghost use Rattle.cost_tree.specs.GrowingLists.{LastGains};
-ghost use Rattle.ht_trace.specs.FrameText.{frame_text};
+ghost use Rattle.std.specs.Prelude.{◌≡◌, ◌+◌, ◌-◌, ◌^◌, ◌<◌, ◌≤◌, [], All, length, reverse, IfOk, OnOk};
 ghost use Rattle.ht_trace.specs.IsFrame.{IsFrame};
 ghost use Rattle.stack_trees.specs.declared.direction.Direction.TheVariants.{FromRoot};
 ghost use Rattle.stack_trees.specs.Needed.{Begins};
-ghost use Rattle.stack_trees.specs.StackTexts.{lists_towards};
+ghost use Rattle.stack_trees.specs.StackTexts.{GainsTexts, lists_towards};
 
 use crate::stack_lists::push_texts;
 use cost_tree::CallerLists;
@@ -91,8 +89,7 @@ fn push_turned(
     requires frames { All (λ at. IsFrame tables.now at) frames.old.items }
     requires begun { 0 < length lists.old }
     ensures gained { OnOk result
-        (LastGains lists.old (map (frame_text style tables.now) (reverse frames.old.items))
-        lists.new) }
+        (GainsTexts style tables.now (reverse frames.old.items) lists.old lists.new) }
 {
     turn(frames);
     push_texts(tables, frames, style, lists, text)

@@ -1,12 +1,9 @@
 //! The lists of texts of a trace's stacks from their innermost frames on, as far as a tree needs them.
 //! What the tree says of them is no part of it.
-ghost use Rattle.std.specs.Prelude.{◌≡◌, ◌+◌, ◌-◌, ◌^◌, ◌<◌, ◌≤◌, All, [], ◌∷◌, ◌++◌, length, map, take, IfOk, OnOk};
-ghost use Rattle.cost_tree.specs.GrowingLists.{LastGains};
-ghost use Rattle.ht_trace.specs.FrameText.{frame_text};
+ghost use Rattle.std.specs.Prelude.{◌≡◌, ◌+◌, ◌-◌, ◌^◌, ◌<◌, ◌≤◌, All, length, IfOk, OnOk};
 ghost use Rattle.ht_trace.specs.IsFrame.{IsFrame};
-ghost use Rattle.stack_trees.specs.declared.direction.Direction.TheVariants.{FromAllocation};
-ghost use Rattle.stack_trees.specs.Needed.{needed, needed_lists};
-ghost use Rattle.stack_trees.specs.StackTexts.{stack_texts, towards};
+ghost use Rattle.stack_trees.specs.Needed.{AppendsNeeded, LastGainsStack, lists_needed};
+ghost use Rattle.stack_trees.specs.StackTexts.{GainsTexts};
 
 use crate::list_form::ListForm;
 use cost_tree::CallerLists;
@@ -30,8 +27,7 @@ pub(crate) fn stack_lists(
     form: ListForm,
 ) -> Result<CallerLists, NoMemory>
     requires as_many { length costs.now ≡ length tables.now.nodes + 1 }
-    ensures lists { IfOk result
-        (λ lists. lists ≡ needed_lists FromAllocation form.style tables.now form.most costs.now) }
+    ensures lists { IfOk result (λ lists. lists ≡ lists_needed form tables.now costs.now) }
 {
     let mut lists = CallerLists::new(alloc);
     let mut buffers = Buffers {
@@ -56,10 +52,7 @@ fn add_stack(
 ) -> Result<(), NoMemory>
     requires held { stack ≤ length tables.now.nodes }
     requires few { length lists.old < 2 ^ 32 - 1 }
-    ensures added { OnOk result
-        (lists.new ≡ lists.old
-        ++ needed form.most cost (towards FromAllocation (stack_texts form.style tables.now stack))
-        ∷ []) }
+    ensures added { OnOk result (AppendsNeeded form tables.now stack cost lists.old lists.new) }
 {
     lists.begin(0)?;
     if cost == 0 {
@@ -78,10 +71,7 @@ fn push_stack(
 ) -> Result<(), NoMemory>
     requires held { stack ≤ length tables.now.nodes }
     requires begun { 0 < length lists.old }
-    ensures gained { OnOk result
-        (LastGains lists.old
-        (take form.most (towards FromAllocation (stack_texts form.style tables.now stack)))
-        lists.new) }
+    ensures gained { OnOk result (LastGainsStack form tables.now stack lists.old lists.new) }
 {
     let Buffers { frames, text } = buffers;
     tables.frames_into(stack, frames)?;
@@ -99,8 +89,7 @@ pub(crate) fn push_texts(
 ) -> Result<(), NoMemory>
     requires frames { All (λ at. IsFrame tables.now at) frames.now }
     requires begun { 0 < length lists.old }
-    ensures gained { OnOk result
-        (LastGains lists.old (map (frame_text style tables.now) frames.now) lists.new) }
+    ensures gained { OnOk result (GainsTexts style tables.now frames.now lists.old lists.new) }
 {
     'each_frame: for at in frames {
         text.clear();

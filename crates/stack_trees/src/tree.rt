@@ -1,11 +1,10 @@
 //! The tree of what the stacks of a trace cost.
 //! What its nodes say is in `cost_tree`.
-ghost use Rattle.std.specs.Prelude.{◌≡◌, ℕ, ◌+◌, ◌^◌, ◌≤◌, List, length, sum, IfOk};
-ghost use Rattle.cost_tree.specs.Costed.{costed};
-ghost use Rattle.cost_tree.specs.Costs.{AreCosts};
+ghost use Rattle.std.specs.Prelude.{◌≡◌, ◌+◌, ◌^◌, ◌≤◌, length, sum, IfOk};
+ghost use Rattle.cost_tree.specs.Costs.{HasCosts, IsStated};
 ghost use Rattle.cost_tree.specs.IsTreeOf.{IsTreeOf};
 ghost use Rattle.cost_tree.specs.TreeState.{TreeState};
-ghost use Rattle.stack_trees.specs.StackTexts.{lists_towards};
+ghost use Rattle.stack_trees.specs.StackTexts.{IsTreeOfStacks, stacks_towards};
 
 use crate::direction::Direction;
 use crate::trace_lists::trace_lists;
@@ -30,12 +29,10 @@ pub trait OfStacks: Sized {
         depth: u32,
     ) -> Result<Self, NoMemory>
         requires as_many { costing.now.stacks ≡ length tables.now.nodes + 1 }
-        requires stated { (costs : List ℕ)
-            × AreCosts (F.pre costing.now.cost) (F.post costing.now.cost) costing.now.stacks costs }
+        requires stated { IsStated F.pre F.post costing.now }
         ensures tree { IfOk result
-            (λ made. (costs : List ℕ)
-            → AreCosts (F.pre costing.now.cost) (F.post costing.now.cost) costing.now.stacks costs
-            → IsTreeOf (tree made) (costed (lists_towards direction style tables.now) costs) depth) };
+            (λ made. IsTreeOfStacks (HasCosts F.pre F.post costing.now) direction style tables.now
+            depth (tree made)) };
 }
 
 impl<'a> OfStacks for CostTree<'a> {
@@ -66,8 +63,7 @@ fn tree_of_stacks<'a>(
     requires as_many { length costs.now ≡ length tables.now.nodes + 1 }
     requires bound { sum costs.now ≤ 2 ^ 62 }
     ensures tree { IfOk result
-        (λ tree. IsTreeOf tree (costed (lists_towards direction style tables.now) costs.now)
-        depth) }
+        (λ tree. IsTreeOf tree (stacks_towards direction style tables.now costs.now) depth) }
 {
     let lists = trace_lists(alloc, tables, costs, direction, style, depth)?;
     CostTree::of_lists(alloc, lists, costs, depth)

@@ -48,7 +48,7 @@ changes-preserved-then-index-until c =
           (let fewer = c.kept_from-next.ensures.most in let was = c.changes.invariant.next_within in omega arith);
       ahead = λ within.
           ahead-kept _ _ _ _ _ _ (c.changes.i - 1) c.changes.i c.kept_from-next.result c.index-change.result.now
-          c.changes.invariant.sifting (omega arith) read (c.kept_from-next.ensures.ahead within);
+          c.changes.invariant.sifting (omega arith) read (c.kept_from-next.ensures.first.ahead within);
     }
 
 pub changes-preserved : goal.changes-preserved
@@ -73,5 +73,5 @@ changes-preserved c =
           (let fewer = c.kept_from-next.ensures.most in let was = c.changes.invariant.next_within in omega arith);
       ahead = λ within.
           ahead-out _ _ _ _ _ _ (c.changes.i - 1) c.changes.i c.kept_from-next.result c.index-change.result.now
-          c.changes.invariant.sifting (omega arith) read (c.kept_from-next.ensures.ahead within);
+          c.changes.invariant.sifting (omega arith) read (c.kept_from-next.ensures.first.ahead within);
     }

@@ -15,7 +15,7 @@ sift-left-requires-clause-ascending c =
 pub returns-clause-costs : goal.returns-clause-costs
 returns-clause-costs c = λ place asked stack.
     ap (λ (xs : List Change). cost_at xs place stack) c.move_down.ensures
-    ∙ c.sift-left.ensures.costs place
+    ∙ c.sift-left.ensures.sifted.costs place
     (subst (λ (xs : List ℕ). IsAsked xs c.args.last place) (sym c.deref.ensures.value)
     (asked-moved c.args.kept.now.items c.sort_unstable.new.self.items c.args.last place
     c.sort_unstable.ensures.permutation asked))
@@ -27,4 +27,4 @@ returns-clause-parted c =
     (parted-moved c.args.kept.now.items c.sort_unstable.new.self.items
     (drop c.sift-left.result c.sift-left.new.changes.items) c.sort_unstable.ensures.permutation
     (subst (λ (xs : List ℕ). AreParted xs (drop c.sift-left.result c.sift-left.new.changes.items)) c.deref.ensures.value
-    c.sift-left.ensures.parted))
+    c.sift-left.ensures.sifted.parted))

@@ -22,20 +22,24 @@ returns-then-front-len-clause-added g c =
     let lists = c.args.fronts.now in
     let same : c.deref.result.now ≡ own = c.deref.ensures.value ∙ sym c.deref-then-front-len.ensures.value in
     let count = ap (λ (fs : List FrameAt). length fs) same in
-    λ names are was.
-    listed-on tables names most stack (drop front own) (without_listed tables names outer)
-    (following lists c.list_of.result) lists c.push_list.new.fronts
-    (trimmed-all tables names stack caller front own
-    (c.in_ok-caller.ensures.frames
-    ∙ ap (λ (fs : List FrameAt). fs ++ outer) (sym c.deref-then-front-len.ensures.value))
-    (c.listed_front-front.ensures.front names are
-    ∙ ap (λ (fs : List FrameAt). prefix_len (is_listed tables names) fs) same)
-    (omega (arith, c.if-front-len.true, c.len.ensures, c.deref.ensures.len, count)))
-    (followed tables names most stack caller c.list_of.result (without_listed tables names outer) lists was
-    c.in_ok-caller.ensures.lower c.list_of.ensures
-    (λ none. ap (without_listed tables names) (outer-none tables caller none) ∙ trimmed-nothing tables names)
-    (λ some. ap (without_listed tables names) (outer-is tables caller some)))
-    c.in_ok-push_list.ensures.appended
+    record {
+      added =
+          λ names are was.
+          listed-on tables names most stack (drop front own) (without_listed tables names outer)
+          (following lists c.list_of.result) lists c.push_list.new.fronts
+          (trimmed-all tables names stack caller front own
+          (c.in_ok-caller.ensures.frames
+          ∙ ap (λ (fs : List FrameAt). fs ++ outer) (sym c.deref-then-front-len.ensures.value))
+          (c.listed_front-front.ensures.front names are
+          ∙ ap (λ (fs : List FrameAt). prefix_len (is_listed tables names) fs) same)
+          (omega (arith, c.if-front-len.true, c.len.ensures, c.deref.ensures.len, count)))
+          (followed tables names most stack caller c.list_of.result (without_listed tables names outer) lists was
+          c.in_ok-caller.ensures.lower c.list_of.ensures
+          (λ none. ap (without_listed tables names) (outer-none tables caller none) ∙ trimmed-nothing tables names)
+          (λ some. ap (without_listed tables names) (outer-is tables caller some)))
+          c.in_ok-push_list.ensures.appended;
+      count = c.in_ok-push_list.ensures.count;
+    }
 
 pub returns-then-lacks_frames-clause-added : goal.returns-then-lacks_frames-clause-added
 returns-then-lacks_frames-clause-added g c =
@@ -47,16 +51,20 @@ returns-then-lacks_frames-clause-added g c =
     let frames : List FrameAt = c.deref-then-lacks_frames.result.now in
     let front : ℕ = c.listed_front-front.result in
     let lists = c.args.fronts.now in
-    λ names are was.
-    listed-on tables names most stack (drop front frames) [] (following lists None) lists
-    c.push_list-then-lacks_frames.new.fronts
-    (trimmed-whole tables names stack front own outer frames
-    (c.in_ok-caller.ensures.frames ∙ ap (λ (fs : List FrameAt). fs ++ outer) (sym c.deref.ensures.value))
-    (c.listed_front-front.ensures.front names are)
-    (omega (arith, c.if-front-len.false, c.len.ensures, c.deref.ensures.len, c.listed_front-front.ensures.within))
-    (c.deref-then-lacks_frames.ensures.value ∙ c.in_ok-frames_into.ensures.of_tables))
-    (sym (take_all most [] (omega arith)))
-    c.in_ok-push_list-2.ensures.appended
+    record {
+      added =
+          λ names are was.
+          listed-on tables names most stack (drop front frames) [] (following lists None) lists
+          c.push_list-then-lacks_frames.new.fronts
+          (trimmed-whole tables names stack front own outer frames
+          (c.in_ok-caller.ensures.frames ∙ ap (λ (fs : List FrameAt). fs ++ outer) (sym c.deref.ensures.value))
+          (c.listed_front-front.ensures.front names are)
+          (omega (arith, c.if-front-len.false, c.len.ensures, c.deref.ensures.len, c.listed_front-front.ensures.within))
+          (c.deref-then-lacks_frames.ensures.value ∙ c.in_ok-frames_into.ensures.of_tables))
+          (sym (take_all most [] (omega arith)))
+          c.in_ok-push_list-2.ensures.appended;
+      count = c.in_ok-push_list-2.ensures.count;
+    }
 
 pub returns-clause-added : goal.returns-clause-added
 returns-clause-added g c =
@@ -70,26 +78,30 @@ returns-clause-added g c =
     let lists = c.args.fronts.now in
     let same : c.deref.result.now ≡ own = c.deref.ensures.value ∙ sym c.deref-3.ensures.value in
     let count = ap (λ (fs : List FrameAt). length fs) same in
-    λ names are was.
-    listed-on tables names most stack (drop front own) outer (following lists c.list_of-2.result) lists
-    c.push_list-2.new.fronts
-    (trimmed-some tables names stack front own outer
-    (c.in_ok-caller.ensures.frames ∙ ap (λ (fs : List FrameAt). fs ++ outer) (sym c.deref-3.ensures.value))
-    (c.listed_front-front.ensures.front names are
-    ∙ ap (λ (fs : List FrameAt). prefix_len (is_listed tables names) fs) same)
-    (omega (
-      arith,
-      c.if-front-len.false,
-      c.len.ensures,
-      c.deref.ensures.len,
-      c.listed_front-front.ensures.within,
-      count,
-    )))
-    (followed tables names most stack caller c.list_of-2.result outer lists was c.in_ok-caller.ensures.lower
-    c.list_of-2.ensures
-    (outer-none tables caller)
-    (λ some. outer-is tables caller some ∙ sym (c.lacks_frames.ensures.whole c.if-lacks_frames.false some names are)))
-    c.in_ok-push_list-3.ensures.appended
+    record {
+      added =
+          λ names are was.
+          listed-on tables names most stack (drop front own) outer (following lists c.list_of-2.result) lists
+          c.push_list-2.new.fronts
+          (trimmed-some tables names stack front own outer
+          (c.in_ok-caller.ensures.frames ∙ ap (λ (fs : List FrameAt). fs ++ outer) (sym c.deref-3.ensures.value))
+          (c.listed_front-front.ensures.front names are
+          ∙ ap (λ (fs : List FrameAt). prefix_len (is_listed tables names) fs) same)
+          (omega (
+            arith,
+            c.if-front-len.false,
+            c.len.ensures,
+            c.deref.ensures.len,
+            c.listed_front-front.ensures.within,
+            count,
+          )))
+          (followed tables names most stack caller c.list_of-2.result outer lists was c.in_ok-caller.ensures.lower
+          c.list_of-2.ensures
+          (outer-none tables caller)
+          (λ some. outer-is tables caller some ∙ sym (c.lacks_frames.ensures.whole c.if-lacks_frames.false some names are)))
+          c.in_ok-push_list-3.ensures.appended;
+      count = c.in_ok-push_list-3.ensures.count;
+    }
 
 pub returns-then-lacks_frames-clause-whole : goal.returns-then-lacks_frames-clause-whole
 returns-then-lacks_frames-clause-whole g c = λ first names are.

@@ -6,7 +6,7 @@ use Rattle.massif_tree.proofs.trimmed_fronts.add_trimmed.Goals as goal
 pub each_stack-preserved : goal.each_stack-preserved
 each_stack-preserved g c =
     let before = c.each_stack.invariant.count in
-    let one = c.in_ok-is_whole.ensures.count in
+    let one = c.in_ok-is_whole.ensures.added.count in
     record {
       count = omega arith;
       within = omega arith;
@@ -22,7 +22,7 @@ each_stack-preserved g c =
           let place : c.each_stack.stack ≡ length c.each_stack.fronts = sym before in
           let lists = c.each_stack.invariant.lists names are was in
           first-more tables names most (length c.each_stack.fronts) c.each_stack.fronts c.add_stack.new.fronts lists
-          (c.in_ok-is_whole.ensures.added names are (lists ∙ ap (first_lists tables names most) before)
+          (c.in_ok-is_whole.ensures.added.added names are (lists ∙ ap (first_lists tables names most) before)
           ∙ ap (λ (n : ℕ). c.each_stack.fronts ++ first_texts tables names most n ∷ []) place)
           ∙ ap (first_lists tables names most) (sym one);
     }

@@ -45,24 +45,13 @@ pub make-requires-clause-place : goal.make-requires-clause-place
 make-requires-clause-place c =
     let keys = c.args.edges.now in
     let now = c.each_node.invariant in
+    let numbered = c.each_node.self.numbered.items in
     let list : List ℕ = list_at keys c.args.end in
     let path = c.pop.new.self.items in
-    let left =
-    subst (λ (ps : List ℕ). IsLeft keys c.each_node.self.numbered.items list ps) c.in-Some.ensures.items now.left in
-    free-above c.each_node.self.numbered.items c.in-Some.place now.built.root
-    (left.each (length path) c.in-Some.place (get-push_new path c.in-Some.place)).free
-
-pub make-requires-clause-within : goal.make-requires-clause-within
-make-requires-clause-within c =
-    let keys = c.args.edges.now in
-    let now = c.each_node.invariant in
-    let list : List ℕ = list_at keys c.args.end in
-    let path = c.pop.new.self.items in
-    let left =
-    subst (λ (ps : List ℕ). IsLeft keys c.each_node.self.numbered.items list ps) c.in-Some.ensures.items now.left in
+    let left = subst (λ (ps : List ℕ). IsLeft keys numbered list ps) c.in-Some.ensures.items now.left in
     let free = (left.each (length path) c.in-Some.place (get-push_new path c.in-Some.place)).free in
-    let inside = slice_get_within c.each_node.self.numbered.items c.in-Some.place 0 free in
-    omega (arith, now.built.numbered_count)
+    let inside = slice_get_within numbered c.in-Some.place 0 free in
+    (free-above numbered c.in-Some.place now.built.root free, omega (arith, now.built.numbered_count))
 
 pub each_node-preserved : goal.each_node-preserved
 each_node-preserved c =

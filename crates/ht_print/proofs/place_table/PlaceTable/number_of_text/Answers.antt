@@ -1,5 +1,5 @@
 use Rattle.std.proofs.Common.{[], ◌∷◌}
-use Rattle.std.proofs.lemmas.Result.{on_ok_weaker}
+use Rattle.std.proofs.lemmas.Result.{IfOk-weaker}
 use Rattle.ht_print.specs.PlaceTable.{names_of}
 use Rattle.ht_print.specs.ReportGroups.{place_of}
 use Rattle.ht_print.proofs.BucketLemmas.{names-more, names-stay}
@@ -10,7 +10,7 @@ returns-clause-names_stay c =
     let tables = c.args.tables.now in
     let old = c.args.self.now in
     let new = c.add.new.self in
-    on_ok_weaker c.add.result
-    (λ stacks. names-stay (names_of tables old) (names_of tables new) (place_of tables c.args.stack ∷ [])
-    (names-more tables old new c.args.stack stacks))
-    c.add.ensures.stacks
+    IfOk-weaker c.add.result _ _
+    (λ number added. names-stay (names_of tables old) (names_of tables new) (place_of tables c.args.stack ∷ [])
+    (names-more tables old new c.args.stack added.stacks))
+    c.add.ensures.added
