@@ -1,7 +1,7 @@
 //! A tree that grows along a shape, by one list after another: each list's way up to a node that the tree has, and then
 //! the nodes that are missing, downwards. What nodes cost with those below them is summed up when all lists are in.
 ghost use Rattle.std.specs.Prelude.{◌≡◌, ◌*◌, ◌+◌, ◌-◌, ◌^◌, ◌<◌, ◌≤◌, [], ◌∷◌, length, IfOk, OnOk, slice_index, sum, sum_by};
-ghost use Rattle.cost_tree.specs.Building.{AddsList, AreReached, IsBuilt, IsMade, IsStarted, StaysBuilt};
+ghost use Rattle.cost_tree.specs.Building.{AreReached, GrowsBy, IsBuilt, IsMade, IsStarted, StaysBuilt};
 ghost use Rattle.cost_tree.specs.Growth.{HasGrownFor, counted, ended, weight};
 ghost use Rattle.cost_tree.specs.Shapes.{HasEdge, IsShape, LeadToFronts};
 ghost use Rattle.cost_tree.specs.TreeParts.{IsRooted, IsTreeFor};
@@ -137,7 +137,11 @@ impl Branches {
         requires cost { 0 < cost }
         requires built { IsBuilt edges.now self.old }
         requires room { sum_by weight self.old.nodes.items + 3 * cost < 2 ^ 64 }
-        ensures added { OnOk result (AddsList edges.now end list cost depth self.old self.new) }
+        ensures built { OnOk result (IsBuilt edges.now self.new) }
+        ensures weight { OnOk result
+            (sum_by weight self.new.nodes.items ≤ sum_by weight self.old.nodes.items + 3 * cost) }
+        ensures grown { OnOk result
+            (GrowsBy edges.now end list cost depth self.old self.new) }
     {
         count(&mut self.nodes[0], list, cost);
         let node = self.number(edges, end, list, depth)?;

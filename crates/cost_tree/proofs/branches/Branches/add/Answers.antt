@@ -4,11 +4,10 @@ use Rattle.cost_tree.specs.declared.node.CostNode.{CostNode}
 use Rattle.cost_tree.proofs.Adding.{GrowsBy-is}
 use Rattle.cost_tree.proofs.branches.Branches.add.Goals as goal
 
-pub returns-clause-added : goal.returns-clause-added
-returns-clause-added c =
+pub returns-clause-grown : goal.returns-clause-grown
+returns-clause-grown c =
     let reached = c.number.new.self in
     let n : ℕ = c.in_ok-node.node in
-    let grown =
     GrowsBy-is c.args.edges.now c.args.end c.args.list c.args.cost c.args.depth c.args.self.now _ reached _
     c.index_mut.result.now c.index_mut-2.result.now n c.is_empty-is_whole.result c.requires.cost
     c.index_mut.ensures.value
@@ -27,5 +26,4 @@ returns-clause-added c =
       nodes_are = ap (λ (x : CostNode). set reached.nodes.items n x) c.end_at.ensures;
       levels = refl;
       numbered = refl;
-    }) in
-    record { built = search rules; weight = search rules; grown = grown }
+    })

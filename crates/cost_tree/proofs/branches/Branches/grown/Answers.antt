@@ -51,11 +51,11 @@ each_list-preserved c =
     let costs = c.args.costs.now in
     let more = taken-more costs c.each_list.list c.each_list-test.true in
     record {
-      built = c.in_ok-add.ensures.added.built;
-      weight = omega (arith, now.weight, c.in_ok-add.ensures.added.weight);
+      built = c.in_ok-add.ensures.built;
+      weight = omega (arith, now.weight, c.in_ok-add.ensures.weight);
       grown =
           AreGrown-more keys ends costs c.args.depth c.each_list.branches c.add.new.self c.each_list.list
-          (omega (arith, c.requires.as_many)) (omega (arith, c.requires.as_many)) c.in_ok-add.ensures.added.grown now.grown;
+          (omega (arith, c.requires.as_many)) (omega (arith, c.requires.as_many)) c.in_ok-add.ensures.grown now.grown;
     }
 
 pub returns-clause-grown : goal.returns-clause-grown
