@@ -6,6 +6,7 @@ use Rattle.std.specs.Option.{option_to_list}
 use Rattle.live_ledger.specs.declared.event.Event.{Event}
 use Rattle.live_ledger.specs.declared.event.EventFault.{EventFault}
 use Rattle.live_ledger.specs.LedgerState.{LedgerState}
+use Rattle.ht_trace.specs.Continues.{Continues}
 use Rattle.ht_trace.specs.HeldStack.{HasHeldStack}
 use Rattle.ht_trace.specs.LedgerFits.{CanTake, infos_in, least_length, stacks_in}
 use Rattle.ht_trace.specs.StepOf.{event_of}
@@ -68,3 +69,15 @@ abbrev pub AnswersFault : {T : Type 0} → Result T (LineRefusal EventFault) →
 AnswersFault (Ok answer) found = found ≡ None
 AnswersFault (Err (Fault fault)) found = found ≡ Some fault
 AnswersFault (Err NoMemory) found = Unit {0}
+
+-- what a follower stands for stays so beside tables that have grown
+abbrev pub GoesOn : Following → Type 0
+GoesOn follower = (before after : TableState) (taken : List Event) → Continues before after
+    → follower.stands before taken → follower.stands after taken
+
+-- an answer to an event tells the fault that it has after the events that the follower stands for
+abbrev pub AnswersEvent : {T : Type 0} → (TableState → List Event → Event → Option EventFault)
+    → TableState → Following → Event → Result T (LineRefusal EventFault) → Type 0
+AnswersEvent faults tables follower event answer =
+    (taken : List Event) → follower.stands tables taken
+    → AnswersFault answer (faults tables taken event)

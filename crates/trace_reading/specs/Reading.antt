@@ -35,6 +35,13 @@ pub record HasRead (tables : TableState) (follower : Following) (patterns lines 
   pub tables_of : StandsAfter tables given lines
   pub stands : follower.stands tables (events lines)
 
+-- these bytes are the text of the lines that were read, behind the patterns that were given before them
+abbrev pub IsTextOfRead : (List (List ℕ) → List (List ℕ) → List ℕ) → TableState → Following
+    → List ℕ → Type 0
+IsTextOfRead text tables follower bytes =
+    (given lines : List (List ℕ)) → StandsAfter tables given lines
+    → follower.stands tables (events lines) → bytes ≡ text (patterns_of given) lines
+
 -- a line was read, which had no fault
 pub record HasReadLine (faults : EventFaults) (tables : TableState) (follower : Following)
     (grown : TableState) (grown_follower : Following) (line : List ℕ) : Type 0 where

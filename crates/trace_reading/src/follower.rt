@@ -5,10 +5,9 @@ ghost use Rattle.live_ledger.specs.declared.event.Event.{Event};
 ghost use Rattle.live_ledger.specs.declared.event.EventFault.{EventFault};
 ghost use Rattle.live_ledger.specs.LedgerState.{without_figures};
 ghost use Rattle.live_ledger.specs.TotalsState.{ledger_of};
-ghost use Rattle.ht_trace.specs.Continues.{Continues};
 ghost use Rattle.ht_trace.specs.TableState.{TableState};
 ghost use Rattle.ht_trace.specs.declared.step.Step.TheVariants as step;
-ghost use Rattle.trace_reading.specs.Following.{AnswersFault, Following, HasFollowed, IsAsBefore, MayTake};
+ghost use Rattle.trace_reading.specs.Following.{AnswersEvent, Following, GoesOn, HasFollowed, IsAsBefore, MayTake};
 
 use command_frame::LineRefusal;
 use hp_num::NoMemory;
@@ -29,8 +28,7 @@ pub trait Follower {
 
     /// What it stands for stays so beside tables that have grown. It does nothing.
     fn goes_on(&self)
-        ensures { (before after : TableState) (taken : List Event) → Continues before after
-            → (view self.now).stands before taken → (view self.now).stands after taken };
+        ensures { GoesOn (view self.now) };
 
     /// Lets it go.
     /// A method, since a value whose type names a closure can't be let go as one of a type parameter.
@@ -54,7 +52,6 @@ pub trait Follower {
         requires { MayTake tables.now (view self.old) (step.Event event) }
         ensures followed { OnOk result
             (HasFollowed tables.now (view self.old) (view self.new) (step.Event event)) }
-        ensures fault { (taken : List Event) → (view self.old).stands tables.now taken
-            → AnswersFault result (faults tables.now taken event) }
+        ensures fault { AnswersEvent faults tables.now (view self.old) event result }
         ensures unchanged { OnErr result (IsAsBefore (view self.old) (view self.new)) };
 }

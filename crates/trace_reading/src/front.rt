@@ -2,11 +2,9 @@
 ghost use Rattle.std.specs.Prelude.{◌≡◌, ◌<◌, ◌≤◌, length, IfSome};
 ghost use Rattle.live_ledger.specs.LedgerState.{IsHeld};
 ghost use Rattle.live_ledger.specs.TotalsState.{ledger_of};
-ghost use Rattle.ht_trace.specs.HeldStack.{HasHeldEvent};
-ghost use Rattle.ht_trace.specs.LedgerFits.{IsBeside, least_length_of};
+ghost use Rattle.ht_trace.specs.LedgerFits.{least_length_of};
 ghost use Rattle.ht_trace.specs.PassesLine.{event_of_info};
-ghost use Rattle.ht_trace.specs.TableState.{TableState};
-ghost use Rattle.trace_reading.specs.PassesFront.{PassesFront};
+ghost use Rattle.trace_reading.specs.PassesFront.{HasStackBeside, PassesBeside};
 
 use ht_lines::{EventKind, event_line};
 use live_ledger::{Event, TotalsLedger};
@@ -25,12 +23,10 @@ pub struct ReadLine {
 #[inline(always)]
 pub fn line_at_front(ledger: &TotalsLedger, ready: &[u8]) -> Option<ReadLine>
     ensures front { IfSome result
-        (λ read. (tables : TableState) → IsBeside tables (ledger_of ledger.now)
-        → PassesFront tables ready.now read.bytes read.event) }
+        (λ read. PassesBeside (ledger_of ledger.now) ready.now read.bytes read.event) }
     ensures held_event { IfSome result (λ read. IsHeld (ledger_of ledger.now) read.event) }
     ensures held_stack { IfSome result
-        (λ read. (tables : TableState) → IsBeside tables (ledger_of ledger.now)
-        → HasHeldEvent tables read.event) }
+        (λ read. HasStackBeside (ledger_of ledger.now) read.event) }
     ensures least { IfSome result (λ read. 3 < read.bytes) }
     ensures least_length { IfSome result (λ read. least_length_of read.event ≡ 3) }
     ensures held { IfSome result (λ read. read.bytes ≤ length ready.now) }

@@ -1,15 +1,10 @@
 //! The one reader of a trace: its tables, and beside them what follows its events. How lines come from a file, and what is made
 //! of them, is no part of it.
-ghost use Rattle.std.specs.Prelude.{◌≡◌, ℕ, ◌+◌, ◌^◌, ◌<◌, ◌≤◌, List, None, Some, length, IfErr, OnOk};
-ghost use Rattle.std.specs.Option.{option_map};
-ghost use Rattle.live_ledger.specs.declared.event.Event.{Event};
+ghost use Rattle.std.specs.Prelude.{◌≡◌, ◌+◌, ◌^◌, ◌<◌, ◌≤◌, length, IfErr, OnOk};
 ghost use Rattle.ht_trace.specs.Continues.{Continues};
-ghost use Rattle.ht_trace.specs.StepOf.{event_of};
-ghost use Rattle.command_frame.specs.Taker.{Tells};
 ghost use Rattle.trace_reading.specs.Following.{HasFollowed, MayTake};
-ghost use Rattle.trace_reading.specs.ReadTrace.{HasRead, HasReadFirst, HasReadLine, IsSound, RefusesLine, weight_of};
-ghost use Rattle.trace_reading.specs.TraceFault.{told};
-ghost use Rattle.trace_reading.specs.TraceReport.{end_fault, fault_among};
+ghost use Rattle.trace_reading.specs.ReadTrace.{HasNoEventFault, HasReadFirst, HasReadLine, IsSound, MayEnd};
+ghost use Rattle.trace_reading.specs.ReadTrace.{RefusesEnd, RefusesLine, RefusesStep, weight_of};
 
 use crate::fault::TraceFault;
 use crate::follower::Follower;
@@ -49,12 +44,8 @@ impl<F: Follower> Trace<F> {
 
     /// Whether the trace may end here.
     pub fn end(&self) -> Result<(), TraceFault>
-        ensures no_fault { OnOk result
-            ((patterns lines : List (List ℕ)) → HasRead F.view self.now patterns lines
-            → end_fault lines ≡ None) }
-        ensures fault { IfErr result
-            (λ fault. (patterns lines : List (List ℕ)) → HasRead F.view self.now patterns lines
-            → end_fault lines ≡ Some (told fault)) }
+        ensures no_fault { OnOk result (MayEnd F.view self.now) }
+        ensures fault { IfErr result (λ fault. RefusesEnd F.view self.now fault) }
     {
         match self.tables.end() {
             Ok(()) => Ok(()),
@@ -90,12 +81,9 @@ fn take_step<F: Follower>(
     ensures followed { OnOk result
         (HasFollowed tables.now (F.view follower.old) (F.view follower.new) step) }
     ensures no_fault { OnOk result
-        ((taken : List Event) → (F.view follower.old).stands tables.now taken
-        → fault_among F.faults tables.now taken (event_of step) ≡ None) }
+        (HasNoEventFault F.faults tables.now (F.view follower.old) step) }
     ensures fault { IfErr result
-        (λ refusal. (taken : List Event) → (F.view follower.old).stands tables.now taken
-        → Tells told refusal (option_map (λ fault. told (TraceFault.Event fault))
-        (fault_among F.faults tables.now taken (event_of step)))) }
+        (λ refusal. RefusesStep F.faults tables.now (F.view follower.old) step refusal) }
 {
     match step {
         Step::Nothing => Ok(()),

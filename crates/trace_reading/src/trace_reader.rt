@@ -1,9 +1,8 @@
 //! The reader of a trace for every command that writes of one once it was read. What each of them writes is the part of its
 //! writer.
-ghost use Rattle.std.specs.Prelude.{◌≡◌, ℕ, List, []};
-ghost use Rattle.ht_trace.specs.StandsFor.{StandsAfter};
+ghost use Rattle.std.specs.Prelude.{◌≡◌, []};
 ghost use Rattle.trace_reading.specs.Following.{IsNew};
-ghost use Rattle.trace_reading.specs.ReadTrace.{HasRead, IsReady, weight_of};
+ghost use Rattle.trace_reading.specs.ReadTrace.{HasRead, HasReadNothing, IsReady, weight_of};
 ghost use Rattle.trace_reading.specs.TraceReport.{patterns_before, trace_report};
 
 use crate::fault::TraceFault;
@@ -30,12 +29,8 @@ impl<F: Follower, W: TraceWriter<F>> TraceReader<F, W> {
         requires nodes { tables.nodes ≡ [] }
         requires infos { tables.infos ≡ [] }
         requires new { IsNew tables (F.view follower) }
-        ensures sound { IsReady F.view result.trace result.given }
-        ensures read { (given : List (List ℕ)) → StandsAfter tables given []
-            → HasRead F.view result.trace (patterns_before result.given result.trace.tables) [] }
-        ensures patterns { patterns_before result.given result.trace.tables ≡ tables.patterns }
+        ensures no_lines { HasReadNothing F.view tables result.trace result.given }
         ensures writer { result.writer ≡ writer }
-        ensures weight { weight_of F.view result.trace ≡ 0 }
     {
         let given = tables.suppressions();
         TraceReader {

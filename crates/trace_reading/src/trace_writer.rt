@@ -1,9 +1,6 @@
 //! What a command over one trace writes, once all lines were read. Which lines a trace may have is no part of it.
-ghost use Rattle.std.specs.Prelude.{◌≡◌, ℕ, List, IfOk};
-ghost use Rattle.ht_trace.specs.Pattern.{patterns_of};
-ghost use Rattle.ht_trace.specs.StandsFor.{StandsAfter};
-ghost use Rattle.ht_trace.specs.TraceEvents.{events};
-ghost use Rattle.trace_reading.specs.Reading.{IsSound};
+ghost use Rattle.std.specs.Prelude.{ℕ, List, IfOk};
+ghost use Rattle.trace_reading.specs.Reading.{IsSound, IsTextOfRead};
 
 use crate::follower::Follower;
 use command_frame::ReadyText;
@@ -24,7 +21,6 @@ pub trait TraceWriter<F: Follower> {
     fn write(&self, alloc: Global, tables: Tables, follower: F) -> Result<Self::Rest, NoMemory>
         requires { IsSound tables (F.view follower) }
         ensures { IfOk result
-            (λ rest. (given lines : List (List ℕ)) → StandsAfter tables given lines
-            → (F.view follower).stands tables (events lines)
-            → Self.Rest.bytes rest ≡ text self.now (patterns_of given) lines) };
+            (λ rest. IsTextOfRead (text self.now) tables (F.view follower)
+            (Self.Rest.bytes rest)) };
 }

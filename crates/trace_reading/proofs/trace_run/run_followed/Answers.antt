@@ -10,9 +10,9 @@ new-reader-requires-clause-new g c = c.requires.new c.new.result c.new.ensures.s
 
 pub run_one_file-requires-clause-taker : goal.run_one_file-requires-clause-taker
 run_one_file-requires-clause-taker g c = record {
-  sound = c.new-reader.ensures.sound;
-  no_lines = c.new-reader.ensures.read [] c.new.ensures.stands;
-  no_weight = c.new-reader.ensures.weight;
+  sound = c.new-reader.ensures.no_lines.sound;
+  no_lines = c.new-reader.ensures.no_lines.read [] c.new.ensures.stands;
+  no_weight = c.new-reader.ensures.no_lines.weight;
 }
 
 pub returns : goal.returns
@@ -25,5 +25,5 @@ returns g c =
     (shown g.S.Store c.args.store.now) (shown g.S.Store c.run_one_file.new.store) (taken g.O.Sink c.args.out.now)
     (taken g.O.Sink c.run_one_file.new.out) c.run_one_file.result)
     (new_report g.F.Follower.faults text before c.new.result reader.writer c.args.writer c.new.ensures.stands
-    c.new-reader.ensures.patterns c.new-reader.ensures.writer)
+    c.new-reader.ensures.no_lines.patterns c.new-reader.ensures.writer)
     c.run_one_file.ensures

@@ -7,7 +7,7 @@ new-requires-2-clause-new g c =
 
 pub returns-clause-new : goal.returns-clause-new
 returns-clause-new g c = record {
-  sound = c.new-2.ensures.sound;
-  no_lines = c.new-2.ensures.read c.requires.sound.given c.requires.sound.stands;
-  no_weight = c.new-2.ensures.weight;
+  sound = c.new-2.ensures.no_lines.sound;
+  no_lines = c.new-2.ensures.no_lines.read c.requires.sound.given c.requires.sound.stands;
+  no_weight = c.new-2.ensures.no_lines.weight;
 }
