@@ -19,3 +19,12 @@ pub record HasTaken (trace : Trace PeakTotalsState) (generator : Generator)
   pub split : lines ≡ taken ++ lines_yet generator
   pub no_fault : HasNoFault taken (lines_yet generator)
   pub room : weight_of totals_view trace + 64 * length (lines_yet generator) ≤ 2 ^ 30
+
+-- a generator has yet to make lines of which none has a fault, and a trace has read none
+pub record MayRead (generator : Generator) (trace : Trace PeakTotalsState) : Type 0 where
+  pub at : IsAt generator
+  pub few : length (lines_yet generator) ≤ 10016003
+  pub good : HasNoFault [] (lines_yet generator)
+  pub sound : IsSound totals_view trace
+  pub new_trace : HasRead totals_view trace [] []
+  pub no_weight : weight_of totals_view trace ≡ 0

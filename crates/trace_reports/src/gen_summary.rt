@@ -1,11 +1,11 @@
 //! The summary of a generated trace: its lines are read as they are made, so many at a time, and none is kept.
-ghost use Rattle.std.specs.Prelude.{◌≡◌, ◌≤◌, ◌++◌, [], length, IfOk, OnOk};
-ghost use Rattle.trace_gen.specs.GeneratorState.{IsAt, lines_yet};
+ghost use Rattle.std.specs.Prelude.{◌≡◌, [], IfOk, OnOk};
+ghost use Rattle.trace_gen.specs.GeneratorState.{lines_yet};
 ghost use Rattle.trace_gen.specs.Sizes.{sizes_of};
-ghost use Rattle.sound_traces.specs.NoFault.{HasNoFault};
-ghost use Rattle.trace_reports.specs.GenReport.{gen_summary};
 ghost use Rattle.trace_reading.specs.TotalsView.{totals_view};
-ghost use Rattle.trace_reading.specs.ReadTrace.{HasRead, IsSound, weight_of};
+ghost use Rattle.trace_reading.specs.ReadTrace.{HasRead};
+ghost use Rattle.trace_reports.specs.GenReport.{gen_summary};
+ghost use Rattle.trace_reports.specs.GenTaken.{MayRead};
 ghost use Rattle.trace_reports.specs.SummaryReport.{summary_written};
 
 use command_frame::LineRefusal;
@@ -40,12 +40,7 @@ fn summarize(
     generator: &mut Generator,
     trace: &mut Trace<PeakTotals>,
 ) -> Result<Vec<u8>, NoMemory>
-    requires at { IsAt generator.old }
-    requires few { length (lines_yet generator.old) ≤ 10016003 }
-    requires good { HasNoFault [] (lines_yet generator.old) }
-    requires sound { IsSound totals_view trace.old }
-    requires new_trace { HasRead totals_view trace.old [] [] }
-    requires no_weight { weight_of totals_view trace.old ≡ 0 }
+    requires { MayRead generator.old trace.old }
     ensures { IfOk result
         (λ summary. summary.items ≡ summary_written [] (lines_yet generator.old)) }
 {
@@ -61,12 +56,7 @@ fn read_lines(
     generator: &mut Generator,
     trace: &mut Trace<PeakTotals>,
 ) -> Result<(), NoMemory>
-    requires at { IsAt generator.old }
-    requires few { length (lines_yet generator.old) ≤ 10016003 }
-    requires good { HasNoFault [] (lines_yet generator.old) }
-    requires sound { IsSound totals_view trace.old }
-    requires new_trace { HasRead totals_view trace.old [] [] }
-    requires no_weight { weight_of totals_view trace.old ≡ 0 }
+    requires { MayRead generator.old trace.old }
     ensures { OnOk result (HasRead totals_view trace.new [] (lines_yet generator.old)) }
 {
     let mut text = Vec::new(alloc);
