@@ -13,7 +13,7 @@ use Rattle.ht_trace.specs.TableState.{TableState}
 use Rattle.intern_tables.specs.WithoutRepeats.{without_repeats}
 use Rattle.dhat_trace.specs.declared.points.CalledStack.{CalledStack}
 use Rattle.dhat_trace.specs.declared.points.PointFigures.{PointFigures}
-use Rattle.dhat_trace.specs.Backtraces.{AreBacktraces, IsTelling, IsTold}
+use Rattle.dhat_trace.specs.Backtraces.{AreBacktraces, Tells, IsTold}
 use Rattle.dhat_trace.specs.FrameTable.{AddsTexts, frame_texts, places_in, table_of}
 use Rattle.dhat_trace.specs.Points.{called_with, point_with, points_in, points_of}
 use Rattle.dhat_trace.proofs.KnownLemmas.{places_are, places_within}
@@ -33,7 +33,7 @@ table_more tables stacks stack old new is adds =
 -- one stack more
 one_more : (tables : TableState) (stacks : List ℕ) (stack : ℕ) (old new told more : List (List ℕ))
     → AreBacktraces tables stacks old told → AddsTexts old (frame_texts tables stack) new
-    → IsTelling tables stack old told new more → AreBacktraces tables (stacks ++ stack ∷ []) new more
+    → Tells tables stack old told new more → AreBacktraces tables (stacks ++ stack ∷ []) new more
 one_more tables stacks stack old new told more are adds tells =
     let later = IsTold tables new more in
     record {
@@ -50,7 +50,7 @@ pub next_backtraces : (tables : TableState) (stacks : List CalledStack) (at : �
     → at < length stacks
     → AreBacktraces tables (map (λ (c : CalledStack). c.stack) (take at stacks)) old told
     → AddsTexts old (frame_texts tables (get_or stacks at called).stack) new
-    → IsTelling tables (get_or stacks at called).stack old told new more
+    → Tells tables (get_or stacks at called).stack old told new more
     → AreBacktraces tables (map (λ (c : CalledStack). c.stack) (take (at + 1) stacks)) new more
 next_backtraces tables stacks at called old new told more within are adds tells =
     let numbers : CalledStack → ℕ = λ c. c.stack in

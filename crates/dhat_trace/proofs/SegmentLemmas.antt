@@ -13,7 +13,7 @@ use Rattle.ht_trace.specs.StackFrames.{frames_of, outer_frames, stack_frames}
 use Rattle.ht_trace.specs.TableState.{TableState}
 use Rattle.cost_tree.specs.Following.{following}
 use Rattle.dhat_trace.specs.declared.segment.Segment.{Segment}
-use Rattle.dhat_trace.specs.Backtraces.{IsTelling, IsTold}
+use Rattle.dhat_trace.specs.Backtraces.{Tells, IsTold}
 use Rattle.dhat_trace.specs.FrameTable.{AddsTexts, Keeps, frame_texts}
 use Rattle.dhat_trace.specs.KnownPlaces.{AreTold, GainsPlaces, HavePlaces, instruction_texts}
 use Rattle.dhat_trace.specs.Segments.{IsGathered, IsSegment}
@@ -264,7 +264,7 @@ pub inwards_last : (tables : TableState) (stack : ℕ) (old before table told mo
     (end : ℕ) (next : Option ℕ) (segments : List Segment)
     → stack ≤ length tables.nodes
     → Keeps old table → own ≡ take end places → more ≡ set told stack (own ++ following told next)
-    → IsInwards tables stack before table told places end next segments → IsTelling tables stack old before table more
+    → IsInwards tables stack before table told places end next segments → Tells tables stack old before table more
 inwards_last tables stack old before table told more places own end next segments node keeps own_is more_is is =
     let list : List ℕ = own ++ following told next in
     let within : stack < length told = omega (arith, node, is.told_are.count) in
@@ -272,7 +272,7 @@ inwards_last tables stack old before table told more places own end next segment
     subst (HavePlaces table (frame_texts tables stack)) (ap (λ (ps : List ℕ). ps ++ following told next) (sym own_is))
     is.own in
     let both = tells tables before table told stack list within held is.told_are is.kept in
-    subst (IsTelling tables stack old before table) (sym more_is) (record {
+    subst (Tells tables stack old before table) (sym more_is) (record {
       told_are = both.0;
       own =
           subst (HavePlaces table (frame_texts tables stack)) (sym (get_or-set_at told stack stack list [] refl within))

@@ -1,14 +1,19 @@
 -- The profile of a trace has these points and this table; it ends at the number of events and peaks
 -- at the first greatest total.
-use Rattle.std.specs.Prelude.{ℕ, ◌+◌, true, false, List, length, codes, Some, None}
+use Rattle.std.specs.Prelude.{◌≡◌, ℕ, ◌+◌, true, false, List, length, codes, Some, None}
 use Rattle.dhat_json.specs.declared.profile.Dhat.{Dhat}
 use Rattle.dhat_json.specs.declared.profile.Point.{Point}
+use Rattle.dhat_json.specs.DhatValue.{dhat_text}
+use Rattle.dhat_metrics.specs.LifeState.{LifeState}
+use Rattle.dhat_metrics.specs.StandsFor as life_spec
 use Rattle.ht_trace.specs.TableState.{TableState}
 use Rattle.live_ledger.specs.declared.event.Event.{Event}
 use Rattle.live_ledger.specs.Events.{event_count}
+use Rattle.peak_costs.specs.Peak as peak_spec
+use Rattle.peak_costs.specs.PeakState.{PeakState}
 use Rattle.dhat_trace.specs.declared.points.PointFigures.{PointFigures}
 use Rattle.dhat_trace.specs.FrameTable.{table_of}
-use Rattle.dhat_trace.specs.PointFigures.{figures_in, peak_moment}
+use Rattle.dhat_trace.specs.PointFigures.{figures_in, figures_of, peak_moment}
 use Rattle.dhat_trace.specs.Points.{called, points_of}
 use Rattle.dhat_trace.specs.ProfileTexts.{command_text}
 
@@ -48,3 +53,13 @@ profile_of tables te tg figures = profile_with tables te tg figures
 unfoldable pub dhat_of : TableState → List Event → Dhat
 dhat_of tables events = profile_of tables (event_count events) (peak_moment events)
     (figures_in events)
+
+-- the profile by what peaks and lifetimes hold
+abbrev pub profile_by : TableState → PeakState → LifeState → Dhat
+profile_by tables peaks lifetimes = profile_of tables peaks.ledger.totals.events peaks.moment
+    (figures_of peaks lifetimes)
+
+-- the bytes are the text of the profile of whatever events both stand for
+abbrev pub IsTraceText : TableState → PeakState → LifeState → List ℕ → Type 0
+IsTraceText tables peaks lifetimes text = (events : List Event) → peak_spec.StandsFor peaks events
+    → life_spec.StandsFor lifetimes events → text ≡ dhat_text (dhat_of tables events)

@@ -1,6 +1,6 @@
 -- The table of frames is `[root]` and then each text of the frames of the points where it first
 -- comes; a text's place is its first one.
-use Rattle.std.specs.Prelude.{◌≡◌, ℕ, List, ◌∷◌, ◌++◌, map, position, unwrap_or, codes, Some}
+use Rattle.std.specs.Prelude.{◌≡◌, ℕ, ◌+◌, List, ◌∷◌, ◌++◌, map, position, unwrap_or, codes, Some}
 use Rattle.std.specs.List.{flat_map}
 use Rattle.std.specs.Str.{bytes_eq}
 use Rattle.intern_tables.specs.Numbers.{number_of}
@@ -15,6 +15,10 @@ use Rattle.dhat_trace.specs.ProfileTexts.{utf8_text}
 -- the text of a frame in a profile
 abbrev pub profile_frame : TableState → FrameAt → List ℕ
 profile_frame tables at = utf8_text (frame_text Addressed tables at)
+
+-- the texts of some frames
+abbrev pub profile_frames : TableState → List FrameAt → List (List ℕ)
+profile_frames tables = map (profile_frame tables)
 
 -- the texts of the frames of a stack, from the innermost on
 unfoldable pub frame_texts : TableState → ℕ → List (List ℕ)
@@ -33,6 +37,10 @@ place_in table text = unwrap_or (position (bytes_eq text) table) 0
 -- the places of texts
 abbrev pub places_in : List (List ℕ) → List (List ℕ) → List ℕ
 places_in table texts = map (place_in table) texts
+
+-- a table has the text at the place
+abbrev pub StandsAt : List (List ℕ) → List ℕ → ℕ → Type 0
+StandsAt table text place = number_of table text ≡ Some (place + 1)
 
 -- the new table has each text of the old one at its place
 abbrev pub Keeps : List (List ℕ) → List (List ℕ) → Type 0

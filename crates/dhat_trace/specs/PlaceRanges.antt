@@ -10,6 +10,10 @@ places_at places range = take (range.end - range.start) (drop range.start places
 abbrev pub lists_of : List ℕ → List PlaceRange → List (List ℕ)
 lists_of places = map (places_at places)
 
+-- a range in which nothing stands
+abbrev pub empty_range : PlaceRange
+empty_range = record { start = 0; end = 0 }
+
 -- the ranges lie within the vector
 abbrev pub IsRange : List ℕ → PlaceRange → Type 0
 IsRange places range = (range.start ≤ range.end) × (range.end ≤ length places)

@@ -1,5 +1,6 @@
 -- The places of a stack's frames, and where those of stacks stand among them that it's called from, for private clauses.
-use Rattle.std.specs.Prelude.{ℕ, ◌≤◌, List, All, drop, length}
+use Rattle.std.specs.Prelude.{◌≡◌, ◌⊎◌, ℕ, ◌≤◌, List, [], ◌∷◌, ◌++◌, All, Option, drop, length}
+use Rattle.cost_tree.specs.Following.{following}
 use Rattle.ht_trace.specs.TableState.{TableState}
 use Rattle.dhat_trace.specs.declared.segment.Segment.{Segment}
 use Rattle.dhat_trace.specs.FrameTable.{AddsTexts, frame_texts}
@@ -17,3 +18,14 @@ pub record IsGathered (tables : TableState) (stack : ℕ) (old new : List (List 
   pub added : AddsTexts old (frame_texts tables stack) new
   pub places : HavePlaces new (frame_texts tables stack) whole
   pub each : All (IsSegment tables new whole) segments
+
+-- the same of places and those of the list that they go on with, if any
+abbrev pub Gathers : TableState → ℕ → List (List ℕ) → List (List ℕ) → List (List ℕ) → List ℕ
+    → List Segment → Option ℕ → Type 0
+Gathers tables stack old new told places segments next =
+    IsGathered tables stack old new (places ++ following told next) segments
+
+-- a segment began behind the others, or none did
+abbrev pub MayBegin : ℕ → ℕ → List Segment → List Segment → Type 0
+MayBegin stack start old new = (new ≡ old)
+    ⊎ (new ≡ old ++ record { stack = stack; start = start } ∷ [])

@@ -1,7 +1,6 @@
 //! The frames of the stacks that have a point, told by their places in the table of frames.
-ghost use Rattle.std.specs.Prelude.{◌≡◌, ◌≤◌, ◌∷◌, [], All, IfOk, OnOk, codes, length, map};
-ghost use Rattle.dhat_trace.specs.declared.points.CalledStack.{CalledStack};
-ghost use Rattle.dhat_trace.specs.Backtraces.{AreBacktraces, IsTelling};
+ghost use Rattle.std.specs.Prelude.{◌≡◌, ◌≤◌, ◌∷◌, [], All, IfOk, OnOk, codes, length};
+ghost use Rattle.dhat_trace.specs.Backtraces.{Tells, TellFrames};
 ghost use Rattle.dhat_trace.specs.FrameTable.{AddsTexts, frame_texts};
 ghost use Rattle.dhat_trace.specs.KnownPlaces.{AreKnown, AreTold};
 
@@ -24,9 +23,7 @@ pub(crate) fn backtraces(
     requires held { All (λ called. called.stack ≤ length tables.now.nodes) stacks.now }
     requires root { table.old.texts ≡ codes "[root]" ∷ [] }
     requires known { AreKnown tables.now table.old.texts table.old.known }
-    ensures { IfOk result
-        (λ told. AreBacktraces tables.now (map (λ called. called.stack) stacks.now)
-        table.new.texts told) }
+    ensures { IfOk result (TellFrames tables.now stacks.now table.new.texts) }
 {
     let mut told = PlaceLists::new(alloc, tables.stacks() as usize)?;
     let mut places = Vec::new(alloc);
@@ -62,7 +59,7 @@ fn tell_stack(
     ensures added { OnOk result
         (AddsTexts table.old.texts (frame_texts tables.now stack) table.new.texts) }
     ensures told { OnOk result
-        (IsTelling tables.now stack table.old.texts told.old table.new.texts told.new) }
+        (Tells tables.now stack table.old.texts told.old table.new.texts told.new) }
 {
     let mut next = table.gather(tables, told, stack, places, segments)?;
     let mut end = places.len();

@@ -1,12 +1,10 @@
 //! The table of frames: each text once, under its place, in the order in which stacks bring them. The places of an
 //! instruction's frames are kept, so that the texts of its frames are made once, however many stacks have it.
-ghost use Rattle.std.specs.Prelude.{◌≡◌, ℕ, ◌+◌, ◌^◌, ◌<◌, ◌≤◌, ◌++◌, List, [], ◌∷◌, All, IfOk, IfSome, OnOk, Some, codes, length, map, slice_get};
-ghost use Rattle.intern_tables.specs.Numbers.{number_of};
+ghost use Rattle.std.specs.Prelude.{◌≡◌, ◌+◌, ◌^◌, ◌<◌, ◌≤◌, [], ◌∷◌, All, IfOk, IfSome, OnOk, Some, codes, length, slice_get};
 ghost use Rattle.ht_trace.specs.IsFrame.{IsFrame};
-ghost use Rattle.cost_tree.specs.Following.{following};
-ghost use Rattle.dhat_trace.specs.FrameTable.{AddsTexts, profile_frame};
-ghost use Rattle.dhat_trace.specs.Segments.{IsGathered};
-ghost use Rattle.dhat_trace.specs.KnownPlaces.{AreKnown, AreTold, GainsPlaces, HavePlaces, instruction_texts};
+ghost use Rattle.dhat_trace.specs.FrameTable.{AddsTexts, StandsAt, profile_frame};
+ghost use Rattle.dhat_trace.specs.Segments.{Gathers};
+ghost use Rattle.dhat_trace.specs.KnownPlaces.{AddsInstruction, AreKnown, AreTold, GainsFrames, IsKnown};
 
 use crate::known_places::KnownPlaces;
 use crate::place_lists::PlaceLists;
@@ -70,8 +68,8 @@ impl FrameTable {
         ensures known { OnOk result (AreKnown tables.now self.new.texts self.new.known) }
         ensures next { IfOk result (λ next. IfSome next (λ other. other < length told.now)) }
         ensures gathered { IfOk result
-            (λ next. IsGathered tables.now stack self.old.texts self.new.texts
-            (places.new.items ++ following told.now next) segments.new.items) }
+            (Gathers tables.now stack self.old.texts self.new.texts told.now places.new.items
+            segments.new.items) }
     {
         places.clear();
         segments.clear();
@@ -105,10 +103,9 @@ impl FrameTable {
         requires known { AreKnown tables.now self.old.texts self.old.known }
         ensures known { OnOk result (AreKnown tables.now self.new.texts self.new.known) }
         ensures added { OnOk result
-            (AddsTexts self.old.texts (instruction_texts tables.now instruction) self.new.texts) }
+            (AddsInstruction tables.now instruction self.old.texts self.new.texts) }
         ensures told { OnOk result
-            ((places : List ℕ) → slice_get self.new.known instruction ≡ Some places
-            → HavePlaces self.new.texts (instruction_texts tables.now instruction) places) }
+            (IsKnown tables.now instruction self.new.texts self.new.known) }
     {
         let number = instruction as usize;
         if self.known.of(number).len() > 0 {
@@ -155,8 +152,7 @@ fn push_places(
 ) -> Result<(), NoMemory>
     requires frames { All (λ at. IsFrame tables.now at) frames.now }
     ensures gains { OnOk result
-        (GainsPlaces texts.old places.old.items (map (profile_frame tables.now) frames.now)
-        texts.new places.new.items) }
+        (GainsFrames tables.now frames.now texts.old places.old.items texts.new places.new.items) }
 {
     'each_frame: for at in frames {
         places.push(place_of(tables, at, texts, text)?)?;
@@ -174,8 +170,7 @@ fn place_of(
     requires frame { IsFrame tables.now at.now }
     ensures added { OnOk result
         (AddsTexts texts.old (profile_frame tables.now at.now ∷ []) texts.new) }
-    ensures place { IfOk result
-        (λ place. number_of texts.new (profile_frame tables.now at.now) ≡ Some (place + 1)) }
+    ensures place { IfOk result (StandsAt texts.new (profile_frame tables.now at.now)) }
 {
     text.clear();
     tables.put_frame(at, Style::Addressed, text)?;

@@ -1,5 +1,6 @@
 //! The places of frames, in a list for each instruction, kept so that what is known isn't asked again.
 ghost use Rattle.std.specs.Prelude.{◌≡◌, ◌<◌, [], All, IfOk, OnOk, Some, length, set, slice_get};
+ghost use Rattle.dhat_trace.specs.PlaceRanges.{empty_range};
 
 use hp_num::NoMemory;
 use std::alloc::Global;
@@ -70,7 +71,7 @@ impl KnownPlaces {
 fn empty_ranges(alloc: Global, count: usize) -> Result<Vec<PlaceRange>, NoMemory>
     ensures count { IfOk result (λ ranges. length ranges.items ≡ count) }
     ensures empty { IfOk result
-        (λ ranges. All (λ range. range ≡ record { start = 0; end = 0 }) ranges.items) }
+        (λ ranges. All (λ range. range ≡ empty_range) ranges.items) }
 {
     let mut ranges = Vec::with_capacity(alloc, count)?;
     'each_range: for _ in 0..count {

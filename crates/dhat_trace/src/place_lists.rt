@@ -2,7 +2,7 @@
 //! for its own first places alone.
 ghost use Rattle.std.specs.Prelude.{◌≡◌, ◌<◌, List, [], ◌∷◌, ◌++◌, All, IfOk, IfSome, OnErr, OnOk, length, set, slice_index_or};
 ghost use Rattle.cost_tree.specs.Following.{following};
-ghost use Rattle.dhat_trace.specs.ListNumbers.{numbers_of};
+ghost use Rattle.dhat_trace.specs.ListNumbers.{GoesOn, numbers_of};
 
 use cost_tree::Chains;
 use hp_num::NoMemory;
@@ -74,9 +74,7 @@ impl PlaceLists {
     ) -> Result<Option<u32>, NoMemory>
         requires held { stack < length self.now }
         ensures next { IfOk result (λ next. IfSome next (λ other. other < length self.now)) }
-        ensures whole { IfOk result
-            (λ next. places.new.items ++ following self.now next
-            ≡ places.old.items ++ slice_index_or self.now stack []) }
+        ensures whole { IfOk result (GoesOn self.now stack places.old.items places.new.items) }
     {
         if self.count(stack as usize) > FEW {
             return Ok(Some(stack));

@@ -1,7 +1,6 @@
 //! The stacks that have a point, which are those that allocated, and the figures of each.
-ghost use Rattle.std.specs.Prelude.{◌≡◌, ◌+◌, ◌-◌, ◌<◌, ◌++◌, ◌∷◌, [], ℕ, List, IfOk, OnOk, length};
-ghost use Rattle.dhat_trace.specs.Points.{called, called_with, if_called};
-ghost use Rattle.dhat_trace.specs.declared.points.PointFigures.{PointFigures};
+ghost use Rattle.std.specs.Prelude.{◌≡◌, ◌<◌, IfOk, OnOk, length};
+ghost use Rattle.dhat_trace.specs.Points.{AddsCalled, called_by};
 ghost use Rattle.dhat_trace.specs.PointFigures as figures_spec;
 
 use dhat_json::Life;
@@ -32,9 +31,7 @@ pub(crate) fn called_stacks(
     lifetimes: &Lifetimes,
 ) -> Result<Vec<CalledStack>, NoMemory>
     requires lifetimes { length lifetimes.now.figures ≡ peaks.now.ledger.stacks }
-    ensures { IfOk result
-        (λ stacks. let figures = figures_spec.figures_of peaks.now lifetimes.now in
-        stacks.items ≡ called_with figures (called figures peaks.now.ledger.stacks)) }
+    ensures { IfOk result (λ stacks. stacks.items ≡ called_by peaks.now lifetimes.now) }
 {
     let mut stacks = Vec::new(alloc);
     'each_stack: for stack in 0..peaks.ledger().stacks() {
@@ -50,8 +47,7 @@ fn add_stack(
     figures: PointFigures,
     stacks: &mut Vec<CalledStack>,
 ) -> Result<(), NoMemory>
-    ensures { OnOk result ((all : ℕ → PointFigures) → all stack ≡ figures
-        → stacks.new.items ≡ stacks.old.items ++ called_with all (if_called all stack)) }
+    ensures { OnOk result (AddsCalled stack figures stacks.old.items stacks.new.items) }
 {
     if figures.tbk == 0 {
         return Ok(());

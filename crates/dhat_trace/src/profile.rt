@@ -1,18 +1,12 @@
 //! The profile of a trace: its points, their frames, and when it peaked and ended.
-ghost use Rattle.std.specs.Prelude.{◌*◌, ◌≡◌, ◌+◌, ◌-◌, ◌^◌, ◌<◌, ◌≤◌, ◌++◌, ◌∷◌, [], List, All, Ok, IfOk, OnOk, length, map, string_bytes};
-ghost use Rattle.live_ledger.specs.declared.event.Event.{Event};
-ghost use Rattle.dhat_json.specs.declared.profile.Dhat.{Dhat};
-ghost use Rattle.dhat_json.specs.Begun.{with_points};
+ghost use Rattle.std.specs.Prelude.{◌*◌, ◌≡◌, ◌+◌, ◌-◌, ◌^◌, ◌<◌, ◌≤◌, [], All, Ok, IfOk, OnOk, length, string_bytes};
 ghost use Rattle.dhat_json.specs.DhatValue.{dhat_text};
 ghost use Rattle.dhat_json.specs.Document.{document_of};
-ghost use Rattle.dhat_json.specs.IsSound.{HasTexts, IsSound};
-ghost use Rattle.dhat_json.specs.PointWriter.{HasWritten};
-ghost use Rattle.dhat_metrics.specs.StandsFor as life_spec;
-ghost use Rattle.peak_costs.specs.Peak as peak_spec;
-ghost use Rattle.dhat_trace.specs.Backtraces.{AreBacktraces};
-ghost use Rattle.dhat_trace.specs.DhatOf.{dhat_of, heap_profile, profile_of};
-ghost use Rattle.dhat_trace.specs.PointFigures.{figures_of};
-ghost use Rattle.dhat_trace.specs.Points.{point_with, points_in};
+ghost use Rattle.dhat_json.specs.IsSound.{HasTexts};
+ghost use Rattle.dhat_json.specs.PointWriter.{WritesPoint};
+ghost use Rattle.dhat_trace.specs.Backtraces.{TellFrames};
+ghost use Rattle.dhat_trace.specs.DhatOf.{IsTraceText, heap_profile, profile_by};
+ghost use Rattle.dhat_trace.specs.Points.{IsTextWith, ReadsBackWith, WritesStacks, point_with};
 ghost use Rattle.dhat_trace.specs.ProfileTexts.{command_text};
 
 use crate::backtraces::backtraces;
@@ -48,15 +42,10 @@ pub fn trace_profile_text(
     requires lifetimes { length lifetimes.figures ≡ length tables.nodes + 1 }
     requires few { 4 * peaks.ledger.totals.events + peaks.ledger.stacks < 5 * (2 ^ 32 - 1) }
     ensures profile { IfOk result
-        (λ text. string_bytes text ≡ dhat_text (profile_of tables peaks.ledger.totals.events
-        peaks.moment (figures_of peaks lifetimes))) }
-    ensures trace { IfOk result
-        (λ text. (events : List Event) → peak_spec.StandsFor peaks events
-        → life_spec.StandsFor lifetimes events
-        → string_bytes text ≡ dhat_text (dhat_of tables events)) }
+        (λ text. string_bytes text ≡ dhat_text (profile_by tables peaks lifetimes)) }
+    ensures trace { IfOk result (λ text. IsTraceText tables peaks lifetimes (string_bytes text)) }
     ensures reads_back { IfOk result
-        (λ text. document_of (string_bytes text) ≡ Ok (profile_of tables
-        peaks.ledger.totals.events peaks.moment (figures_of peaks lifetimes))) }
+        (λ text. document_of (string_bytes text) ≡ Ok (profile_by tables peaks lifetimes)) }
 {
     let stacks = called_stacks(alloc, &peaks, &lifetimes);
     let te = peaks.ledger().totals().events;
@@ -84,8 +73,7 @@ struct Told {
 fn told_stacks(alloc: Global, tables: Tables, stacks: &[CalledStack]) -> Result<Told, NoMemory>
     requires held { All (λ called. called.stack ≤ length tables.nodes) stacks.now }
     ensures backtraces { IfOk result
-        (λ told. AreBacktraces tables (map (λ called. called.stack) stacks.now) told.ftbl
-        told.backtraces) }
+        (λ told. TellFrames tables stacks.now told.ftbl told.backtraces) }
     ensures cmd { IfOk result (λ told. told.cmd ≡ command_text tables.command) }
 {
     let gathered = told_by_tables(alloc, &tables, stacks);
@@ -119,8 +107,7 @@ fn told_by_tables(
 ) -> Result<Gathered, NoMemory>
     requires held { All (λ called. called.stack ≤ length tables.now.nodes) stacks.now }
     ensures backtraces { IfOk result
-        (λ gathered. AreBacktraces tables.now (map (λ called. called.stack) stacks.now)
-        gathered.table.texts gathered.backtraces) }
+        (λ all. TellFrames tables.now stacks.now all.table.texts all.backtraces) }
     ensures cmd { IfOk result (λ gathered. gathered.cmd ≡ command_text tables.now.command) }
 {
     let cmd = command_text(alloc, tables)?;
@@ -143,12 +130,9 @@ fn written(
     requires texts { HasTexts head }
     requires held { All (λ called. called.stack < length backtraces.now) stacks.now }
     ensures text { IfOk result
-        (λ text. string_bytes text
-        ≡ dhat_text (with_points head (points_in stacks.now backtraces.now))) }
+        (λ text. IsTextWith head stacks.now backtraces.now (string_bytes text)) }
     ensures reads_back { IfOk result
-        (λ text. IsSound (with_points head (points_in stacks.now backtraces.now))
-        → document_of (string_bytes text)
-        ≡ Ok (with_points head (points_in stacks.now backtraces.now))) }
+        (λ text. ReadsBackWith head stacks.now backtraces.now (string_bytes text)) }
 {
     let mut writer = PointWriter::new(alloc, head)?;
     match put_points(alloc, stacks, backtraces, &mut writer) {
@@ -168,8 +152,7 @@ fn put_points(
     writer: &mut PointWriter,
 ) -> Result<(), NoMemory>
     requires held { All (λ called. called.stack < length backtraces.now) stacks.now }
-    ensures { OnOk result ((head : Dhat) → HasWritten writer.old (with_points head [])
-        → HasWritten writer.new (with_points head (points_in stacks.now backtraces.now))) }
+    ensures { OnOk result (WritesStacks writer.old writer.new stacks.now backtraces.now) }
 {
     let mut places = Vec::new(alloc);
     'each_stack: for called in stacks {
@@ -186,9 +169,7 @@ fn put_point(
     places: &[usize],
     writer: &mut PointWriter,
 ) -> Result<(), NoMemory>
-    ensures { OnOk result ((dhat : Dhat) → HasWritten writer.old dhat
-        → HasWritten writer.new
-        (with_points dhat (dhat.pps ++ point_with figures places.now ∷ []))) }
+    ensures { OnOk result (WritesPoint writer.old writer.new (point_with figures places.now)) }
 {
     let fs = frame_list(alloc, places)?;
     writer.put(&Point {

@@ -1,6 +1,7 @@
 //! Where a long way outwards from a stack is parted: the places of its frames are told segment by segment, each with the stack at which
 //! it begins, so that another stack that is called from there goes on with them.
-ghost use Rattle.std.specs.Prelude.{◌≡◌, ◌⊎◌, ◌++◌, ◌∷◌, [], OnOk};
+ghost use Rattle.std.specs.Prelude.{OnOk};
+ghost use Rattle.dhat_trace.specs.Segments.{MayBegin};
 
 use hp_num::NoMemory;
 
@@ -21,8 +22,7 @@ pub(crate) fn note_segment(
     start: usize,
     segments: &mut Vec<Segment>,
 ) -> Result<(), NoMemory>
-    ensures { OnOk result ((segments.new.items ≡ segments.old.items)
-        ⊎ (segments.new.items ≡ segments.old.items ++ record { stack = stack; start = start } ∷ [])) }
+    ensures { OnOk result (MayBegin stack start segments.old.items segments.new.items) }
 {
     let before = match segments.last() {
         Some(segment) => segment.start,
