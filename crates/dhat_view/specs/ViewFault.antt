@@ -1,6 +1,6 @@
 -- A profile has no view where its points have no figures of the key, or where these sum to more
 -- than 2^62.
-use Rattle.std.specs.Prelude.{◌≡◌, ◌≢◌, ◌^◌, nat_lt, if◌then◌else◌, Option, Some, None, sum}
+use Rattle.std.specs.Prelude.{◌≡◌, ◌≢◌, ◌^◌, nat_lt, if◌then◌else◌, Option, Some, None, Result, Err, sum}
 use Rattle.dhat_json.specs.declared.figure.FigureKey.{FigureKey}
 use Rattle.dhat_json.specs.declared.profile.Dhat.{Dhat}
 use Rattle.dhat_json.specs.Figure.{has_figures}
@@ -11,6 +11,10 @@ use Rattle.dhat_view.specs.PointCosts.{point_costs}
 -- the fault is what a profile has, unless memory was wanting
 abbrev pub IsFaultOf : Option ViewFault → ViewFault → Type 0
 IsFaultOf defined fault = fault ≢ NoMemory → defined ≡ Some fault
+
+-- the result is the profile's fault, if it has one
+abbrev pub IsRefused : {A : Type 0} → Option ViewFault → Result A ViewFault → Type 0
+IsRefused defined result = (fault : ViewFault) → defined ≡ Some fault → result ≡ Err fault
 
 -- its points have no figures of the key, or the figures sum to more than 2^62
 unfoldable pub view_fault : FigureKey → Dhat → Option ViewFault

@@ -1,15 +1,15 @@
 //! The view of a profile: its head, and the tree of its points' costs.
 #![tactic(auto, using(hp_num::proofs::Laws::extends_same, hp_num::proofs::Laws::extends_more, hp_num::proofs::Laws::extends_trans))]
 
-ghost use Rattle.std.specs.Prelude.{◌≡◌, ◌<◌, ◌≤◌, ◌^◌, ◌++◌, sum, Some, None, Err, IfErr, IfOk, OnErr, OnOk};
-ghost use Rattle.cost_tree.specs.TreeLines.{HasLines};
+ghost use Rattle.std.specs.Prelude.{◌≡◌, ◌<◌, ◌≤◌, ◌^◌, ◌++◌, sum, Some, None, IfErr, IfOk, OnErr, OnOk};
 ghost use Rattle.dhat_json.specs.IsSound.{IsSound};
 ghost use Rattle.hp_num.specs.Extends.{Extends};
 ghost use Rattle.dhat_view.specs.AreViewSums.{GainsView};
+ghost use Rattle.dhat_view.specs.LinesIn.{IsTreeOfPoints};
 ghost use Rattle.dhat_view.specs.PointCosts.{point_costs};
 ghost use Rattle.dhat_view.specs.PointFronts.{point_fronts};
-ghost use Rattle.dhat_view.specs.ViewFault.{view_fault, IsFaultOf};
-ghost use Rattle.dhat_view.specs.ViewText.{head_text, points_text, total_text, fronts_with_costs, view_by};
+ghost use Rattle.dhat_view.specs.ViewFault.{IsFaultOf, IsRefused, view_fault};
+ghost use Rattle.dhat_view.specs.ViewText.{head_text, points_text, total_text, view_by};
 
 use crate::fault::ViewFault;
 use crate::fronts::fronts_of;
@@ -43,8 +43,7 @@ pub fn put_view(
 
     ensures no_fault { OnOk result (view_fault options.now.key dhat.now ≡ None) }
     ensures fault { IfErr result (IsFaultOf (view_fault options.now.key dhat.now)) }
-    ensures refused { (fault : ViewFault) → view_fault options.now.key dhat.now ≡ Some fault
-        → result ≡ Err fault }
+    ensures refused { IsRefused (view_fault options.now.key dhat.now) result }
     ensures unchanged { OnErr result (out.new.items ≡ out.old.items) }
 {
     if !dhat.has_figures(options.key) {
@@ -125,8 +124,7 @@ fn fronts_tree<'a>(
 ) -> Result<CostTree<'a>, NoMemory>
     requires fronts { fronts.now ≡ point_fronts dhat.now }
     requires within { sum (point_costs options.now.key dhat.now) ≤ 2 ^ 62 }
-    ensures tree { IfOk result
-        (λ tree. HasLines tree (fronts_with_costs options.now.key dhat.now) options.now.depth) }
+    ensures tree { IfOk result (IsTreeOfPoints options.now dhat.now) }
 {
     let key = options.key;
     let depth = options.depth;
