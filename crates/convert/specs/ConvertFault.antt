@@ -2,7 +2,7 @@
 -- where no snapshot with a tree is chosen, or where the items' numbers sum to more than 2^62; there
 -- is no Massif profile where points tell of no lifetimes, or where the time at the end or what was
 -- live is more than 2^62.
-use Rattle.std.specs.Prelude.{◌≡◌, ◌≢◌, ℕ, ◌^◌, ◌||◌, nat_lt, Bool, if◌then◌else◌, List, Option, Some, None, sum}
+use Rattle.std.specs.Prelude.{◌≡◌, ◌≢◌, ℕ, ◌^◌, ◌||◌, nat_lt, Bool, if◌then◌else◌, List, Option, Some, None, Result, Err, sum}
 use Rattle.std.specs.Prelude.{sum_by}
 use Rattle.cost_tree.specs.Costed.{Costed}
 use Rattle.dhat_json.specs.declared.figure.FigureKey.{FigureKey}
@@ -20,6 +20,10 @@ use Rattle.convert.specs.TreeItems.{tree_items}
 -- the fault is what stands against a profile, unless memory was wanting
 abbrev pub IsFaultOf : Option ConvertFault → ConvertFault → Type 0
 IsFaultOf defined fault = fault ≢ NoMemory → defined ≡ Some fault
+
+-- the result is what stands against a profile, if anything does
+abbrev pub IsRefused : {A : Type 0} → Option ConvertFault → Result A ConvertFault → Type 0
+IsRefused defined result = (fault : ConvertFault) → defined ≡ Some fault → result ≡ Err fault
 
 -- a number above 2^62
 abbrev pub is_too_large : ℕ → Bool

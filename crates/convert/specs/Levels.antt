@@ -1,5 +1,6 @@
 -- Where a walk over a tree's lines stands, for private clauses: the levels that are open, from the innermost one outwards.
-use Rattle.std.specs.Prelude.{◌≡◌, ℕ, zero, suc, ◌-◌, List, [], ◌∷◌, ◌++◌, drop, map, reverse, sum, take}
+use Rattle.std.specs.Prelude.{◌≡◌, ℕ, zero, suc, ◌-◌, List, [], ◌∷◌, ◌++◌, drop, length, map, reverse, sum, take}
+use Rattle.std.specs.Global.{Vec}
 use Rattle.cost_tree.specs.Costed.{Costed}
 use Rattle.massif_file.specs.TreeLine.{TreeLine}
 use Rattle.convert.specs.declared.path.Level.{Level}
@@ -15,8 +16,13 @@ left_in (line ∷ lines) = left_bytes line lines ∷ left_in lines
 abbrev pub kept : ℕ → ℕ → List ℕ → ℕ
 kept bytes children roots = bytes - sum (take children (reverse roots))
 
-abbrev pub TakesRoots : ℕ → ℕ → List ℕ → List ℕ → Type 0
-TakesRoots bytes children old new = reverse new ≡ bytes ∷ drop children (reverse old)
+abbrev pub TakesRoots : ℕ → ℕ → Vec ℕ → Vec ℕ → Type 0
+TakesRoots bytes children old new =
+    reverse new.items ≡ bytes ∷ drop children (reverse old.items)
+
+-- these lists have so many numbers, one for each line
+abbrev pub HaveLength : ℕ → List ℕ → List ℕ → Type 0
+HaveLength count left numbers = (length left ≡ count) × (length numbers ≡ count)
 
 -- the innermost levels at which no line is to come are ended
 abbrev pub level_at : ℕ → ℕ → Level
@@ -46,6 +52,14 @@ path_of names levels = texts_of names (reverse (map (λ level. level.label) leve
 -- an item below these texts
 abbrev pub under : List (List ℕ) → Costed → Costed
 under path item = record { texts = path ++ item.texts; cost = item.cost }
+
+-- a line with this label and so many children came to the levels, of which the last one is the innermost
+abbrev pub Enters : ℕ → ℕ → List Level → List Level → Type 0
+Enters label children old new = reverse new ≡ entered label children (reverse old)
+
+-- the levels at which no line is to come ended, and one less is at the next one
+abbrev pub TakesOne : List Level → List Level → Type 0
+TakesOne old new = reverse new ≡ one_less (without_done (reverse old))
 
 -- the items of the trees that are still to come: at each level as many as it waits for, and what is left stands beside all
 unfoldable pub items_left : List (List ℕ) → List Level → List (List Costed) → List Costed

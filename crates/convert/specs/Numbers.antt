@@ -1,7 +1,7 @@
 -- How texts and lists of them are kept: each different text once, and a list as the numbers of its
 -- texts, for private clauses.
 use Rattle.std.specs.Prelude.{◌≡◌, ℕ, ◌+◌, ◌^◌, ◌≤◌, All, List, [], ◌∷◌, ◌++◌, codes, flat_map, length, map, reverse}
-use Rattle.std.specs.Prelude.{sum_by}
+use Rattle.std.specs.Prelude.{Some, slice_get, sum_by}
 use Rattle.std.specs.Global.{Vec}
 use Rattle.cost_tree.specs.Costed.{Costed, costed}
 use Rattle.cost_tree.specs.Inclusive.{own}
@@ -9,7 +9,7 @@ use Rattle.cost_tree.specs.Texts.{IsText, texts_of}
 use Rattle.intern_tables.specs.Distinct.{AreDistinct}
 use Rattle.intern_tables.specs.Numbers.{name_at}
 use Rattle.convert.specs.declared.list_sums.ListSums.{ListSums}
-use Rattle.convert.specs.Folded.{folded_lists, folded_name}
+use Rattle.convert.specs.Folded.{folded_line, folded_lists, folded_name, folded_text}
 
 -- the lists that the vectors of numbers stand for
 abbrev pub lists_at : List (List ℕ) → List (Vec ℕ) → List (List (List ℕ))
@@ -42,6 +42,20 @@ lines_of sums = lines_at sums.names sums.lists.keys sums.sums.items
 
 abbrev pub SumsUp : ListSums → List Costed → Type 0
 SumsUp sums = AreSums sums.names sums.lists.keys sums.sums.items
+
+-- the lines of whatever items they are the sums of came to the bytes
+abbrev pub GainsSums : ListSums → List ℕ → List ℕ → Type 0
+GainsSums sums old new = (items : List Costed) → SumsUp sums items
+    → new ≡ old ++ folded_text items
+
+-- the line at this place came to the bytes
+abbrev pub GainsLineAt : ListSums → ℕ → List ℕ → List ℕ → Type 0
+GainsLineAt sums place old new = (line : Costed) → slice_get (lines_of sums) place ≡ Some line
+    → new ≡ old ++ folded_line line
+
+-- the line of a list of numbers of names with its sum
+abbrev pub line_with : List (List ℕ) → List ℕ → ℕ → List ℕ
+line_with names list sum = folded_line (item_of names list sum)
 
 -- a number more is no more than fits
 abbrev pub HasRoom : ListSums → ℕ → Type 0

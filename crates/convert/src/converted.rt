@@ -1,5 +1,5 @@
 //! The Massif profile of a DHAT profile: what was live at the peak, and what was live at the end.
-ghost use Rattle.std.specs.Prelude.{◌≡◌, ◌≤◌, ◌^◌, [], ◌∷◌, sum, true, Some, None, Err, IfErr, IfOk, OnOk};
+ghost use Rattle.std.specs.Prelude.{◌≡◌, ◌≤◌, ◌^◌, [], ◌∷◌, sum, true, None, IfErr, IfOk, OnOk};
 ghost use Rattle.dhat_json.specs.declared.figure.FigureKey.TheVariants.{Eb, Gb};
 ghost use Rattle.dhat_json.specs.IsSound.{IsSound};
 ghost use Rattle.dhat_view.specs.PointCosts.{point_costs};
@@ -8,7 +8,7 @@ ghost use Rattle.massif_file.specs.declared.profile.HeapTree.TheVariants.{Detail
 ghost use Rattle.massif_file.specs.IsWritable.{IsWritable};
 ghost use Rattle.massif_tree.specs.MassifTree.{massif_tree};
 ghost use Rattle.convert.specs.AreTreeSums.{HaveTreeSums};
-ghost use Rattle.convert.specs.ConvertFault.{IsFaultOf, converted_fault};
+ghost use Rattle.convert.specs.ConvertFault.{IsFaultOf, IsRefused, converted_fault};
 ghost use Rattle.convert.specs.Converted.{command_of, converted, peak_time, snap_with, snaps_of, tree_by, unit_of};
 
 use crate::fault::ConvertFault;
@@ -46,8 +46,7 @@ pub fn massif_of_dhat(alloc: Global, dhat: &Dhat) -> Result<Profile, ConvertFaul
 
     ensures no_fault { OnOk result (converted_fault dhat.now ≡ None) }
     ensures fault { IfErr result (λ fault. IsFaultOf (converted_fault dhat.now) fault) }
-    ensures refused { (fault : ConvertFault) → converted_fault dhat.now ≡ Some fault
-        → result ≡ Err fault }
+    ensures refused { IsRefused (converted_fault dhat.now) result }
 {
     // What holds of the trees of a profile, and of shown texts.
     massif_trees();

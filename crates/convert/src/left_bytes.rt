@@ -27,8 +27,8 @@ pub(crate) fn left_bytes(alloc: Global, tree: &Tree) -> Result<Vec<u64>, NoMemor
 fn take_line(line: TreeFields, roots: &mut Vec<u64>) -> Result<u64, NoMemory>
     ensures left { IfOk result
         (λ left. left ≡ kept line.entry.bytes line.entry.children roots.old.items) }
-    ensures roots { OnOk result (TakesRoots line.entry.bytes line.entry.children
-        roots.old.items roots.new.items) }
+    ensures roots { OnOk result
+        (TakesRoots line.entry.bytes line.entry.children roots.old roots.new) }
 {
     let mut left = line.bytes;
     'each_child: for _ in 0..line.children {

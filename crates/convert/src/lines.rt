@@ -1,12 +1,12 @@
 //! Folded lines: a line for each list with its sum.
 #![tactic(auto, using(hp_num::proofs::Laws::extends_same, hp_num::proofs::Laws::extends_more, hp_num::proofs::Laws::extends_trans))]
 
-ghost use Rattle.std.specs.Prelude.{◌≡◌, ◌<◌, ◌++◌, All, List, OnOk, Some, length, slice_get};
+ghost use Rattle.std.specs.Prelude.{◌≡◌, ◌<◌, ◌++◌, All, List, OnOk, length};
 ghost use Rattle.cost_tree.specs.Costed.{Costed};
 ghost use Rattle.hp_num.specs.Extends.{Extends};
-ghost use Rattle.convert.specs.Folded.{folded_byte, folded_line, folded_name, folded_path, folded_text};
+ghost use Rattle.convert.specs.Folded.{folded_byte, folded_name, folded_path};
 ghost use Rattle.cost_tree.specs.Texts.{IsText, text_of, texts_of};
-ghost use Rattle.convert.specs.Numbers.{SumsUp, item_of, later_texts, lines_of};
+ghost use Rattle.convert.specs.Numbers.{GainsLineAt, GainsSums, SumsUp, later_texts, line_with};
 
 use crate::list_sums::ListSums;
 use hp_num::{NoMemory, put_bytes, put_dec};
@@ -15,9 +15,7 @@ use intern_tables::Names;
 /// Appends the lines of all lists, in their order.
 pub(crate) fn put_lines(sums: &ListSums, out: &mut Vec<u8>) -> Result<(), NoMemory>
     requires sums { (items : List Costed) × SumsUp sums.now items }
-    ensures appended { OnOk result
-        ((items : List Costed) → SumsUp sums.now items
-        → out.new.items ≡ out.old.items ++ folded_text items) }
+    ensures appended { OnOk result (GainsSums sums.now out.old.items out.new.items) }
     ensures kept { Extends out.old.items out.new.items }
 {
     'each_list: for place in 0..sums.sums.len() {
@@ -30,9 +28,7 @@ pub(crate) fn put_lines(sums: &ListSums, out: &mut Vec<u8>) -> Result<(), NoMemo
 fn put_line_at(sums: &ListSums, place: usize, out: &mut Vec<u8>) -> Result<(), NoMemory>
     requires held { All (λ key. All (IsText sums.now.names) key.items) sums.now.lists.keys }
     requires place { place < length sums.now.sums.items }
-    ensures appended { OnOk result
-        ((line : Costed) → slice_get (lines_of sums.now) place ≡ Some line
-        → out.new.items ≡ out.old.items ++ folded_line line) }
+    ensures appended { OnOk result (GainsLineAt sums.now place out.old.items out.new.items) }
     ensures kept { Extends out.old.items out.new.items }
 {
     let Some(list) = sums.lists.get_index(place) else {
@@ -45,7 +41,7 @@ fn put_line_at(sums: &ListSums, place: usize, out: &mut Vec<u8>) -> Result<(), N
 fn put_line(names: &Names, list: &[usize], sum: u64, out: &mut Vec<u8>) -> Result<(), NoMemory>
     requires held { All (IsText names.now) list.now }
     ensures appended { OnOk result
-        (out.new.items ≡ out.old.items ++ folded_line (item_of names.now list.now sum)) }
+        (out.new.items ≡ out.old.items ++ line_with names.now list.now sum) }
     ensures kept { Extends out.old.items out.new.items }
 {
     put_path(names, list, out)?;

@@ -10,7 +10,7 @@ ghost use Rattle.convert.specs.AreFolded.{GainsLines};
 ghost use Rattle.convert.specs.Chosen.{chosen, chosen_items, folded_of_massif};
 ghost use Rattle.convert.specs.ConvertFault.{IsFaultOf, folded_massif_fault, items_fault};
 ghost use Rattle.convert.specs.Folded.{folded_text};
-ghost use Rattle.convert.specs.Levels.{left_in};
+ghost use Rattle.convert.specs.Levels.{HaveLength, left_in};
 ghost use Rattle.dhat_view.specs.Numbers.{AreNumbers};
 ghost use Rattle.convert.specs.Numbers.{SumsUp};
 ghost use Rattle.convert.specs.TreeItems.{labels_of, tree_items};
@@ -119,11 +119,9 @@ fn add_lines(
 ) -> Result<(), NoMemory>
     requires left { left.now ≡ left_in tree.now }
     requires within { sum left.now ≤ 2 ^ 62 }
-    requires left_count { length left.now ≡ length tree.now }
-    requires count { length numbers.now ≡ length tree.now }
-    requires begun { walk.old.levels.items ≡ [] }
+    requires counts { HaveLength (length tree.now) left.now numbers.now }
     requires numbers { AreNumbers sums.old.names numbers.now (labels_of tree.now) }
-    requires sums { SumsUp sums.old [] }
+    requires begun { (walk.old.levels.items ≡ []) × SumsUp sums.old [] }
     ensures sums { OnOk result (SumsUp sums.new (tree_items tree.now)) }
 {
     'each_line: for place in 0..tree.len() {

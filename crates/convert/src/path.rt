@@ -1,6 +1,6 @@
 //! The lines of a tree from its root down to the one that is read: their labels, and how many lines are to come below each.
-ghost use Rattle.std.specs.Prelude.{◌≡◌, drop, map, reverse, OnOk};
-ghost use Rattle.convert.specs.Levels.{entered, one_less, without_done};
+ghost use Rattle.std.specs.Prelude.{◌≡◌, drop, map, OnOk};
+ghost use Rattle.convert.specs.Levels.{Enters, TakesOne};
 
 use hp_num::NoMemory;
 
@@ -15,8 +15,7 @@ pub(crate) struct Level {
 
 /// Takes a line with this label and so many children: `levels` are then those from the root down to it.
 pub(crate) fn enter(levels: &mut Vec<Level>, label: usize, children: u32) -> Result<(), NoMemory>
-    ensures entered { OnOk result
-        (reverse levels.new.items ≡ entered label children (reverse levels.old.items)) }
+    ensures entered { OnOk result (Enters label children levels.old.items levels.new.items) }
 {
     take_one(levels)?;
     levels.push(Level {
@@ -28,8 +27,7 @@ pub(crate) fn enter(levels: &mut Vec<Level>, label: usize, children: u32) -> Res
 
 /// Ends the innermost levels at which no line is to come; at the next one outwards, one less is.
 fn take_one(levels: &mut Vec<Level>) -> Result<(), NoMemory>
-    ensures taken { OnOk result
-        (reverse levels.new.items ≡ one_less (without_done (reverse levels.old.items))) }
+    ensures taken { OnOk result (TakesOne levels.old.items levels.new.items) }
 {
     'levels: while let Some(Level { label, to_come }) = levels.pop() {
         if to_come > 0 {

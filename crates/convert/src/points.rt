@@ -1,12 +1,12 @@
 //! The folded lines of a DHAT profile: its points by the texts of their frames, with a figure.
 #![tactic(auto, using(hp_num::proofs::Laws::extends_same, hp_num::proofs::Laws::extends_more, hp_num::proofs::Laws::extends_trans))]
 
-ghost use Rattle.std.specs.Prelude.{◌≡◌, ◌<◌, ◌≤◌, ◌^◌, ◌++◌, All, length, map, slice_index, sum, Some, None, Err, IfErr, IfOk, OnErr, OnOk};
+ghost use Rattle.std.specs.Prelude.{◌≡◌, ◌<◌, ◌≤◌, ◌^◌, ◌++◌, All, length, map, slice_index, sum, Some, None, IfErr, IfOk, OnErr, OnOk};
 ghost use Rattle.dhat_json.specs.IsSound.{IsSound};
 ghost use Rattle.dhat_view.specs.PointCosts.{point_costs};
 ghost use Rattle.hp_num.specs.Extends.{Extends};
 ghost use Rattle.convert.specs.AreFolded.{GainsLines};
-ghost use Rattle.convert.specs.ConvertFault.{IsFaultOf, folded_fault};
+ghost use Rattle.convert.specs.ConvertFault.{IsFaultOf, IsRefused, folded_fault};
 ghost use Rattle.convert.specs.Folded.{folded_text};
 ghost use Rattle.convert.specs.Items.{point_items};
 ghost use Rattle.convert.specs.Numbers.{SumsUp};
@@ -41,8 +41,7 @@ pub fn put_folded_dhat(
 
     ensures no_fault { OnOk result (folded_fault key dhat.now ≡ None) }
     ensures fault { IfErr result (λ fault. IsFaultOf (folded_fault key dhat.now) fault) }
-    ensures refused { (fault : ConvertFault) → folded_fault key dhat.now ≡ Some fault
-        → result ≡ Err fault }
+    ensures refused { IsRefused (folded_fault key dhat.now) result }
     ensures unchanged { OnErr result (out.new.items ≡ out.old.items) }
 {
     if !dhat.has_figures(key) {

@@ -17,8 +17,8 @@ pub each_line-init : goal.each_line-init
 each_line-init c =
     record {
       numbers = c.requires.numbers;
-      walk = at-begin c.args.sums.now.names c.args.tree.now c.args.walk.now.levels.items c.requires.begun;
-      sums = c.requires.sums;
+      walk = at-begin c.args.sums.now.names c.args.tree.now c.args.walk.now.levels.items c.requires.begun.0;
+      sums = c.requires.begun.1;
     }
 
 pub add-requires-clause-sums : goal.add-requires-clause-sums
@@ -27,8 +27,8 @@ add-requires-clause-sums c =
     next-line c.each_line.sums.names c.args.tree.now c.args.numbers.now c.args.left.now c.each_line.walk.levels.items
     c.enter.new.levels.items c.each_line.place (line_of c.at.result)
     c.each_line.invariant.walk c.at.ensures.item c.in_ok-enter.ensures.entered c.each_line.invariant.numbers
-    c.requires.left (let all = c.len-place-end.ensures.length in let count = c.requires.count in omega arith)
-    (let all = c.len-place-end.ensures.length in let count = c.requires.left_count in omega arith) in (
+    c.requires.left (let all = c.len-place-end.ensures.length in let count = c.requires.counts.1 in omega arith)
+    (let all = c.len-place-end.ensures.length in let count = c.requires.counts.0 in omega arith) in (
       take c.each_line.place (tree_items c.args.tree.now),
       c.each_line.invariant.sums,
       next-within c.each_line.sums.names c.args.tree.now c.args.left.now c.enter.new.levels.items c.each_line.place
@@ -41,8 +41,8 @@ add-requires-clause-held c =
     next-line c.each_line.sums.names c.args.tree.now c.args.numbers.now c.args.left.now c.each_line.walk.levels.items
     c.enter.new.levels.items c.each_line.place (line_of c.at.result)
     c.each_line.invariant.walk c.at.ensures.item c.in_ok-enter.ensures.entered c.each_line.invariant.numbers
-    c.requires.left (let all = c.len-place-end.ensures.length in let count = c.requires.count in omega arith)
-    (let all = c.len-place-end.ensures.length in let count = c.requires.left_count in omega arith) in
+    c.requires.left (let all = c.len-place-end.ensures.length in let count = c.requires.counts.1 in omega arith)
+    (let all = c.len-place-end.ensures.length in let count = c.requires.counts.0 in omega arith) in
     let list =
     c.deref-in-each_line.ensures.value ∙ c.in_ok-labels_into.ensures.labels
     ∙ ap (λ (ls : List Level). drop 1 (map (λ (level : Level). level.label) ls)) c.deref.ensures.value in
@@ -60,8 +60,8 @@ each_line-preserved c =
     next-line c.each_line.sums.names c.args.tree.now c.args.numbers.now c.args.left.now c.each_line.walk.levels.items
     c.enter.new.levels.items c.each_line.place (line_of c.at.result)
     c.each_line.invariant.walk c.at.ensures.item c.in_ok-enter.ensures.entered c.each_line.invariant.numbers
-    c.requires.left (let all = c.len-place-end.ensures.length in let count = c.requires.count in omega arith)
-    (let all = c.len-place-end.ensures.length in let count = c.requires.left_count in omega arith) in
+    c.requires.left (let all = c.len-place-end.ensures.length in let count = c.requires.counts.1 in omega arith)
+    (let all = c.len-place-end.ensures.length in let count = c.requires.counts.0 in omega arith) in
     let list =
     c.deref-in-each_line.ensures.value ∙ c.in_ok-labels_into.ensures.labels
     ∙ ap (λ (ls : List Level). drop 1 (map (λ (level : Level). level.label) ls)) c.deref.ensures.value in
