@@ -18,6 +18,7 @@ use Rattle.massif_cull.specs.Entries.{end_peak, is_peak, is_peak_at, is_peak_kin
 use Rattle.massif_cull.specs.Linked.{IsOutside, AreDifferent, AreBelow}
 use Rattle.massif_cull.specs.LinksState.{LinksState}
 use Rattle.massif_cull.specs.Held.{held_at, held_in, snaps_of, AreHeld, ended}
+use Rattle.massif_cull.specs.Removed.{HoldsAt}
 use Rattle.massif_cull.proofs.Linking.{apart-at, each-append, each-at, each-from, each-remove, different-pop}
 use Rattle.massif_cull.proofs.HeldLemmas.{AreEnded, AreTaken, some-of, length-held, held-at, held-push, taken-push}
 use Rattle.massif_cull.proofs.HeldLemmas.{held-remove, taken-remove, held-ended, taken-ended}
@@ -90,19 +91,19 @@ pub place-inside : {T : Type 0} (snaps : Inside T) (k p : ℕ) → AreHeld snaps
 place-inside snaps k p is at =
     omega (arith, each-at (λ place. place < snaps.links.max) snaps.links.places k p at is.below, is.slots)
 
-pub entry-there : {T : Type 0} (snaps : Inside T) (k p : ℕ) (held : Held T) → AreHeld snaps
+pub holds-at : {T : Type 0} (snaps : Inside T) (k p : ℕ) (held : Held T) → AreHeld snaps
     → slice_get snaps.links.places k ≡ Some p → held_at snaps.slots.items p ≡ Some held
-    → slice_get (snaps_of snaps).entries k ≡ Some held.entry
-entry-there {T} snaps k p held is at there =
-    slice_get-map (λ h. h.entry) (held_in snaps.slots.items snaps.links.places) k
-    ∙ ap (option_map (λ (h : Held T). h.entry)) (held-at snaps.slots.items snaps.links.places k p is.each at ∙ there)
-
-pub load-there : {T : Type 0} (snaps : Inside T) (k p : ℕ) (held : Held T) → AreHeld snaps
-    → slice_get snaps.links.places k ≡ Some p → held_at snaps.slots.items p ≡ Some held
-    → slice_get (snaps_of snaps).loads k ≡ Some held.load
-load-there {T} snaps k p held is at there =
-    slice_get-map (λ h. h.load) (held_in snaps.slots.items snaps.links.places) k
-    ∙ ap (option_map (λ (h : Held T). h.load)) (held-at snaps.slots.items snaps.links.places k p is.each at ∙ there)
+    → HoldsAt (snaps_of snaps) k held
+holds-at {T} snaps k p held is at there =
+    let stands = held-at snaps.slots.items snaps.links.places k p is.each at ∙ there in
+    record {
+      entry =
+          slice_get-map (λ h. h.entry) (held_in snaps.slots.items snaps.links.places) k
+          ∙ ap (option_map (λ (h : Held T). h.entry)) stands;
+      load =
+          slice_get-map (λ h. h.load) (held_in snaps.slots.items snaps.links.places) k
+          ∙ ap (option_map (λ (h : Held T). h.load)) stands;
+    }
 
 -- ---- one more
 
@@ -248,7 +249,7 @@ ended-each {T} snaps new k place is done j p at =
           (place-inside snaps k place is done.at))
       | inr apart ↦
           let there = held-there snaps j p is at in
-          let entry = entry-there snaps j p there.0 is at there.1 in
+          let entry = (holds-at snaps j p there.0 is at there.1).entry in
           let normal : is_peak there.0.entry ≡ false =
           sym (peak-of (snaps_of snaps).entries j there.0.entry entry) ∙ done.others j apart in
           get_or-set_other snaps.slots.items place p (option_map ended (held_at snaps.slots.items place)) None

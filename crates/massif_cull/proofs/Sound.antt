@@ -37,6 +37,14 @@ All-push P entries entry all here k d inside =
       | inr after ↦ rw (get_or_push entries entry d k (omega arith)) here
     ]
 
+-- the last time is that of the entry that was added last
+pub last_time-push : (entries : List SnapEntry) (entry : SnapEntry) → last_time (entries ++ entry ∷ []) ≡ entry.time
+last_time-push entries entry =
+    let long = length_push entries entry in
+    time-at (entries ++ entry ∷ []) (length (entries ++ entry ∷ []) - 1) entry (omega arith)
+    ∙ ap (λ (e : SnapEntry). e.time)
+    (get_or_push entries entry entry (length (entries ++ entry ∷ []) - 1) (omega arith))
+
 -- of two entries of which the second is no peak, not both are
 pub not_both : (a b : Bool) → b ≡ false → (a && b) ≡ false
 not_both true b off = off

@@ -11,6 +11,14 @@ abbrev pub goers : List SnapEntry → ℕ → ℕ → ℕ
 goers entries place zero = 0
 goers entries place (suc n) = (if may_go entries place then 1 else 0) + goers entries (place + 1) n
 
+-- how many entries from the place on may go, without the last one
+abbrev pub goers_from : List SnapEntry → ℕ → ℕ
+goers_from entries place = goers entries place (length entries - 1 - place)
+
+-- each gap before the place is above so much
+abbrev pub AreGapsAbove : List SnapEntry → ℕ → ℕ → Type 0
+AreGapsAbove entries place most = (k : ℕ) → 0 < k → k < place → most < gap_to_go entries k
+
 -- the time from the entry before the place to the last one
 abbrev pub span : List SnapEntry → ℕ → ℕ
 span entries place = last_time entries - slice_index (times entries) (place - 1)
@@ -19,5 +27,5 @@ span entries place = last_time entries - slice_index (times entries) (place - 1)
 pub record GoesWhole (entries : List SnapEntry) (place : ℕ) : Type 0 where
   pub some : 0 < place
   pub inside : place < length entries
-  pub count : goers entries place (length entries - 1 - place) ≡ length entries / 2
-  pub above : (k : ℕ) → 0 < k → k < place → span entries place < gap_to_go entries k
+  pub count : goers_from entries place ≡ length entries / 2
+  pub above : AreGapsAbove entries place (span entries place)

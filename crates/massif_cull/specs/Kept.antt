@@ -10,6 +10,11 @@ pub record Settings : Type 0 where
   pub detailed_freq : ℕ
   pub inaccuracy : ℕ
 
+-- the settings as they are given
+abbrev pub settings_with : ℕ → ℕ → ℕ → Settings
+settings_with max detailed_freq inaccuracy
+    = record { max = max; detailed_freq = detailed_freq; inaccuracy = inaccuracy }
+
 -- the entries, the least time from the last of them to the next normal offer taken, the total of the last peak
 -- taken, and how many normal offers were taken
 pub record Kept : Type 0 where

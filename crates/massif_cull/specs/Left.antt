@@ -6,6 +6,7 @@ use Rattle.massif_cull.specs.ArrayState.{AreSound}
 use Rattle.massif_cull.specs.Culling.{cull, cull_times}
 use Rattle.massif_cull.specs.Entries.{last_time}
 use Rattle.massif_cull.specs.Loads.{loads_cull, loads_cull_times}
+use Rattle.massif_cull.specs.SnapsState.{SnapsState}
 
 -- after some removals of a cull, `rest` of them are still to come
 pub record AreLeft {T : Type 0} (rest : ℕ) (earlier : List SnapEntry) (earlier_loads : List T)
@@ -17,3 +18,7 @@ pub record AreLeft {T : Type 0} (rest : ℕ) (earlier : List SnapEntry) (earlier
   pub sound : AreSound entries
   pub last : last_time entries ≡ last_time earlier
   pub among : AreAmong earlier earlier_loads entries loads
+
+-- half of the snapshots are removed, as a cull removes them
+abbrev pub IsHalved : {T : Type 0} → SnapsState T → SnapsState T → Type 0
+IsHalved old new = AreLeft 0 old.entries old.loads new.entries new.loads

@@ -14,10 +14,13 @@ pub mod Origins
 pub mod TakesOffer
 pub mod SnapsState
 pub mod Held
+pub mod Removed
 pub mod LinksState
 pub mod Linked
 pub mod Keys
 pub mod Pyramid
 pub mod Keyed
 pub mod Left
+pub mod Culled
+pub mod TakenEntry
 pub mod Ends

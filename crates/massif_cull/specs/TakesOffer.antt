@@ -1,18 +1,18 @@
 -- By an offer an array keeps what one more step leaves, so that it stands for one offer more.
-use Rattle.std.specs.Prelude.{◌≡◌, ◌<◌, ◌≤◌, List, [], ◌∷◌, ◌++◌, length}
+use Rattle.std.specs.Prelude.{◌≡◌, ◌<◌, ◌≤◌, length}
 use Rattle.massif_cull.specs.declared.snapshot.Offer.{Offer}
 use Rattle.massif_cull.specs.declared.snapshot.Taken.{Taken}
 use Rattle.massif_cull.specs.ArrayState.{ArrayState}
 use Rattle.massif_cull.specs.Entries.{last_time}
 use Rattle.massif_cull.specs.Loads.{loads_step}
 use Rattle.massif_cull.specs.Origins.{ComeFrom}
-use Rattle.massif_cull.specs.StandsFor.{StandsFor, held_of}
+use Rattle.massif_cull.specs.StandsFor.{StandsForMore, held_of}
 use Rattle.massif_cull.specs.Step.{step}
 
 -- the array is one offer farther, whatever it stands for
 pub record TakesOffer {T : Type 0} (old new : ArrayState T) (offer : Offer) (load : T)
     (taken : Taken) : Type 0 where
-  pub stands : (offers : List Offer) → StandsFor old offers → StandsFor new (offers ++ offer ∷ [])
+  pub stands : StandsForMore old new offer
   pub settings : new.settings ≡ old.settings
   pub kept : new.kept ≡ held_of old.settings (step old.settings old.kept offer)
   pub loads : new.loads ≡ loads_step old.settings old.kept offer old.loads load

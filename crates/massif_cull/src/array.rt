@@ -1,18 +1,16 @@
 //! The array of snapshots: which offers it takes, and what it keeps of them.
 //! How entries are removed is in `removal`.
-ghost use Rattle.std.specs.Prelude.{◌≡◌, ◌+◌, ◌*◌, ◌/◌, ◌%◌, ◌==◌, ◌^◌, ◌<◌, ◌≤◌, List, [], ◌∷◌, ◌++◌, false, length, map, slice_get, Some, None, IfOk, IfSome, vec_capacity};
-ghost use Rattle.massif_cull.specs.declared.snapshot.Offer.{Offer};
+ghost use Rattle.std.specs.Prelude.{◌≡◌, ◌+◌, ◌*◌, ◌/◌, ◌%◌, ◌==◌, ◌^◌, ◌<◌, ◌≤◌, [], ◌∷◌, ◌++◌, false, length, map, slice_get, Some, None, IfOk, IfSome, vec_capacity};
 ghost use Rattle.massif_cull.specs.declared.snapshot.Taken.TheVariants.{No};
-ghost use Rattle.massif_cull.specs.Among.{AreAmong};
-ghost use Rattle.massif_cull.specs.ArrayState.{AreSound, IsSound};
-ghost use Rattle.massif_cull.specs.Entries.{end_peak, is_peak, last_time};
-ghost use Rattle.massif_cull.specs.Kept.{nothing_kept};
+ghost use Rattle.massif_cull.specs.ArrayState.{AreInRange, AreSound, IsSound};
+ghost use Rattle.massif_cull.specs.Culled.{AreCulled};
+ghost use Rattle.massif_cull.specs.Entries.{MayFollow, end_peak, is_peak};
+ghost use Rattle.massif_cull.specs.Kept.{nothing_kept, settings_with};
 ghost use Rattle.massif_cull.specs.TakenAs.{next_time_after, taken_as};
-ghost use Rattle.massif_cull.specs.Origins.{ComeFrom};
-ghost use Rattle.massif_cull.specs.Step.{culled, bounded, entries_bounded, interval_bounded, step, entry_of};
-ghost use Rattle.massif_cull.specs.KeptOf.{kept_of};
-ghost use Rattle.massif_cull.specs.Loads.{loads_cull, loads_bounded, loads_step};
-ghost use Rattle.massif_cull.specs.StandsFor.{StandsFor, held_of};
+ghost use Rattle.massif_cull.specs.Step.{culled, bounded, interval_bounded, entry_of};
+ghost use Rattle.massif_cull.specs.StandsFor.{IsTakenBehind, StandsFor, StandsForMore};
+ghost use Rattle.massif_cull.specs.TakenEntry.{Appends, CanAppend, TakesEntry};
+ghost use Rattle.massif_cull.specs.TakenEntry.{held_with_normal, with_peak};
 ghost use Rattle.massif_cull.specs.TakesOffer.{TakesOffer};
 
 use crate::gaps::Gaps;
@@ -70,12 +68,9 @@ impl<T: Drop> SnapArray<T> {
         detailed_freq: u64,
         inaccuracy: u64,
     ) -> Result<Self, NoMemory>
-        requires max { (10 ≤ max) × (max ≤ 1000) }
-        requires detailed_freq { (1 ≤ detailed_freq) × (detailed_freq ≤ 1000000) }
-        requires inaccuracy { inaccuracy ≤ 10000 }
+        requires range { AreInRange (settings_with max detailed_freq inaccuracy) }
         ensures settings { IfOk result
-            (λ array. array.settings
-            ≡ record { max = max; detailed_freq = detailed_freq; inaccuracy = inaccuracy }) }
+            (λ array. array.settings ≡ settings_with max detailed_freq inaccuracy) }
         ensures kept { IfOk result (λ array. array.kept ≡ nothing_kept) }
         ensures loads { IfOk result (λ array. array.loads ≡ []) }
         ensures stands { IfOk result (λ array. StandsFor array []) }
@@ -100,15 +95,11 @@ impl<T: Drop> SnapArray<T> {
     /// Nearly every offer is refused, by one test of a number that changes only where a snapshot is taken.
     #[inline(always)]
     pub fn judge(&self, offer: &Offer) -> Taken
-        requires in_order { last_time self.now.kept.entries ≤ offer.now.time }
-        requires time { offer.now.time ≤ 2 ^ 62 }
-        requires total { offer.now.total ≤ 2 ^ 62 }
+        requires follows { MayFollow self.now.kept.entries offer.now.time offer.now.total }
         requires first_is_normal { length self.now.kept.entries ≡ 0 → offer.now.peak ≡ false }
         ensures taken { result ≡ taken_as self.now.settings self.now.kept offer.now }
-        ensures of_offers { (offers : List Offer) → StandsFor self.now offers
-            → result ≡ taken_as self.now.settings (kept_of self.now.settings offers) offer.now }
-        ensures passed { result ≡ No → (offers : List Offer) → StandsFor self.now offers
-            → StandsFor self.now (offers ++ offer.now ∷ []) }
+        ensures of_offers { IsTakenBehind self.now offer.now result }
+        ensures passed { result ≡ No → StandsForMore self.now self.now offer.now }
         ensures sound { IsSound self.now }
     {
         if offer.peak {
@@ -132,29 +123,13 @@ impl<T: Drop> SnapArray<T> {
     /// The offer's time must not be below the last snapshot's. Its time and its total are at most 2^62. The first offer
     /// is a normal one.
     pub fn offer(&mut self, offer: Offer, load: T) -> Taken
-        requires in_order { last_time self.old.kept.entries ≤ offer.time }
-        requires time { offer.time ≤ 2 ^ 62 }
-        requires total { offer.total ≤ 2 ^ 62 }
+        requires follows { MayFollow self.old.kept.entries offer.time offer.total }
         requires first_is_normal { length self.old.kept.entries ≡ 0 → offer.peak ≡ false }
         ensures taken { result ≡ taken_as self.old.settings self.old.kept offer }
-        ensures of_offers { (offers : List Offer) → StandsFor self.old offers
-            → result ≡ taken_as self.old.settings (kept_of self.old.settings offers) offer }
-        ensures stands { (offers : List Offer) → StandsFor self.old offers
-            → StandsFor self.new (offers ++ offer ∷ []) }
-
+        ensures of_offers { IsTakenBehind self.old offer result }
         // From any state, also after a `cull` of the caller's.
-        ensures settings { self.new.settings ≡ self.old.settings }
-        ensures kept { self.new.kept
-            ≡ held_of self.old.settings (step self.old.settings self.old.kept offer) }
-        ensures loads { self.new.loads
-            ≡ loads_step self.old.settings self.old.kept offer self.old.loads load }
-
-        // Each snapshot was held before, with its load, or is that of the offer.
-        ensures origins { ComeFrom self.old.kept.entries self.old.loads offer load result
-            self.new.kept.entries self.new.loads }
-        ensures last { last_time self.new.kept.entries ≤ offer.time }
+        ensures takes { TakesOffer self.old self.new offer load result }
         ensures not_empty { 0 < length self.new.kept.entries }
-        ensures below_max { length self.new.kept.entries < self.new.settings.max }
     {
         let taken = self.judge(&offer);
         self.take(offer, taken, load);
@@ -163,9 +138,7 @@ impl<T: Drop> SnapArray<T> {
 
     /// Does what `offer` does of an offer that is judged: it is taken as `judge` says.
     pub fn take(&mut self, offer: Offer, taken: Taken, load: T)
-        requires in_order { last_time self.old.kept.entries ≤ offer.time }
-        requires time { offer.time ≤ 2 ^ 62 }
-        requires total { offer.total ≤ 2 ^ 62 }
+        requires follows { MayFollow self.old.kept.entries offer.time offer.total }
         requires first_is_normal { length self.old.kept.entries ≡ 0 → offer.peak ≡ false }
         requires judged { taken ≡ taken_as self.old.settings self.old.kept offer }
         ensures takes { TakesOffer self.old self.new offer load taken }
@@ -190,12 +163,8 @@ impl<T: Drop> SnapArray<T> {
         requires { 6 ≤ length self.old.kept.entries }
         ensures settings { self.new.settings ≡ self.old.settings }
         ensures kept { self.new.kept ≡ culled self.old.kept }
-        ensures loads { self.new.loads ≡ loads_cull self.old.kept.entries self.old.loads }
-        ensures among { AreAmong self.old.kept.entries self.old.loads self.new.kept.entries
-            self.new.loads }
-        ensures last { last_time self.new.kept.entries ≡ last_time self.old.kept.entries }
-        ensures length { length self.new.kept.entries + length self.old.kept.entries / 2
-            ≡ length self.old.kept.entries }
+        ensures snapshots { AreCulled self.old.kept.entries self.old.loads
+            self.new.kept.entries self.new.loads }
     {
         self.interval = self.snaps.cull(&mut self.gaps);
         self.normal_from = normal_from(&self.snaps, self.interval);
@@ -266,51 +235,24 @@ impl<T: Drop> SnapArray<T> {
 
     /// Takes an entry that is no peak.
     fn take_normal(&mut self, entry: SnapEntry, load: T)
-        requires in_order { last_time self.old.kept.entries ≤ entry.time }
-        requires time { entry.time ≤ 2 ^ 62 }
-        requires total { entry.total ≤ 2 ^ 62 }
+        requires follows { MayFollow self.old.kept.entries entry.time entry.total }
         requires kind { is_peak entry ≡ false }
-        ensures settings { self.new.settings ≡ self.old.settings }
-        ensures kept { self.new.kept
-            ≡ held_of self.old.settings
-            (bounded self.old.settings
-            (record self.old.kept {
-              entries = self.old.kept.entries ++ entry ∷ [];
-              normals = self.old.kept.normals + 1;
-            })) }
-        ensures loads { self.new.loads
-            ≡ loads_bounded self.old.settings.max (self.old.kept.entries ++ entry ∷ [])
+        ensures kept { self.new.kept ≡ held_with_normal self.old.settings self.old.kept entry }
+        ensures takes { TakesEntry self.old self.new entry (self.old.kept.entries ++ entry ∷ [])
             (self.old.loads ++ load ∷ []) }
-        ensures among { AreAmong (self.old.kept.entries ++ entry ∷ []) (self.old.loads ++ load ∷ [])
-            self.new.kept.entries self.new.loads }
-        ensures last { last_time self.new.kept.entries ≡ entry.time }
-        ensures not_empty { 0 < length self.new.kept.entries }
-        ensures below_max { length self.new.kept.entries < self.new.settings.max }
     {
         self.normals = next_in_turn(self.normals, self.detailed_freq);
         self.interval = append(&mut self.snaps, &mut self.gaps, entry, load, self.interval);
         self.normal_from = normal_from(&self.snaps, self.interval);
     }
 
+    /// Takes an entry that is the peak from then on.
     fn take_peak(&mut self, entry: SnapEntry, load: T)
-        requires in_order { last_time self.old.kept.entries ≤ entry.time }
-        requires time { entry.time ≤ 2 ^ 62 }
-        requires total { entry.total ≤ 2 ^ 62 }
-        ensures settings { self.new.settings ≡ self.old.settings }
+        requires follows { MayFollow self.old.kept.entries entry.time entry.total }
         ensures kept { self.new.kept
-            ≡ bounded self.old.settings
-            (record self.old.kept {
-              entries = map end_peak self.old.kept.entries ++ entry ∷ [];
-              last_peak = entry.total;
-            }) }
-        ensures loads { self.new.loads
-            ≡ loads_bounded self.old.settings.max (map end_peak self.old.kept.entries ++ entry ∷ [])
-            (self.old.loads ++ load ∷ []) }
-        ensures among { AreAmong (map end_peak self.old.kept.entries ++ entry ∷ [])
-            (self.old.loads ++ load ∷ []) self.new.kept.entries self.new.loads }
-        ensures last { last_time self.new.kept.entries ≡ entry.time }
-        ensures not_empty { 0 < length self.new.kept.entries }
-        ensures below_max { length self.new.kept.entries < self.new.settings.max }
+            ≡ bounded self.old.settings (with_peak self.old.kept entry) }
+        ensures takes { TakesEntry self.old self.new entry
+            (with_peak self.old.kept entry).entries (self.old.loads ++ load ∷ []) }
     {
         self.snaps.end_peak();
         self.last_peak = entry.total;
@@ -328,29 +270,13 @@ fn append<T: Drop>(
     load: T,
     interval: u64,
 ) -> u64
-    requires max { 10 ≤ snaps.old.max }
-    requires gaps { length gaps.old.keys ≡ snaps.old.max }
-    requires below_max { length snaps.old.entries < snaps.old.max }
-    requires loads_beside { length snaps.old.loads ≡ length snaps.old.entries }
+    requires room { CanAppend snaps.old gaps.old entry }
     requires interval { interval ≤ 2 ^ 62 }
-    requires sound { AreSound (snaps.old.entries ++ entry ∷ []) }
-    ensures max { snaps.new.max ≡ snaps.old.max }
+    ensures appends { Appends snaps.old snaps.new entry load }
     ensures gaps { length gaps.new.keys ≡ length gaps.old.keys }
-    ensures entries { snaps.new.entries
-        ≡ entries_bounded snaps.old.max (snaps.old.entries ++ entry ∷ []) }
-    ensures loads { snaps.new.loads
-        ≡ loads_bounded snaps.old.max (snaps.old.entries ++ entry ∷ [])
-        (snaps.old.loads ++ load ∷ []) }
     ensures interval { result
         ≡ interval_bounded snaps.old.max (snaps.old.entries ++ entry ∷ []) interval }
     ensures interval_most { result ≤ 2 ^ 62 }
-    ensures last { last_time snaps.new.entries ≡ entry.time }
-    ensures not_empty { 0 < length snaps.new.entries }
-    ensures below_max { length snaps.new.entries < snaps.new.max }
-    ensures loads_beside { length snaps.new.loads ≡ length snaps.new.entries }
-    ensures sound { AreSound snaps.new.entries }
-    ensures among { AreAmong (snaps.old.entries ++ entry ∷ []) (snaps.old.loads ++ load ∷ [])
-        snaps.new.entries snaps.new.loads }
 {
     let max = snaps.max();
     snaps.push(entry, load);

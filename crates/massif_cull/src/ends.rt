@@ -1,10 +1,9 @@
 //! The end of the snapshots that a cull removes whole: it takes less time than any gap before it.
 //! What goes where there is no such end is in `removal`.
-ghost use Rattle.std.specs.Prelude.{◌≡◌, ℕ, ◌+◌, ◌-◌, ◌<◌, ◌≤◌, true, length, IfSome};
+ghost use Rattle.std.specs.Prelude.{◌≡◌, ◌<◌, ◌≤◌, true, length, IfSome};
 ghost use Rattle.massif_cull.specs.ArrayState.{AreSound};
-ghost use Rattle.massif_cull.specs.Ends.{GoesWhole, goers};
-ghost use Rattle.massif_cull.specs.Keyed.{gap_to_go};
-ghost use Rattle.massif_cull.specs.Left.{AreLeft};
+ghost use Rattle.massif_cull.specs.Ends.{AreGapsAbove, GoesWhole, goers_from};
+ghost use Rattle.massif_cull.specs.Left.{IsHalved};
 ghost use Rattle.massif_cull.specs.SnapsState.{IsNumberedSnap};
 
 use crate::linked::LinkedSnaps;
@@ -41,8 +40,7 @@ impl<T: Drop> LinkedSnaps<T> {
         ensures inside { IfSome result
             (λ snap_at. (0 < snap_at.index) × (snap_at.index < length self.now.entries)) }
         ensures count { IfSome result
-            (λ snap_at. goers self.now.entries snap_at.index (length self.now.entries - 1 - snap_at.index)
-            ≡ count) }
+            (λ snap_at. goers_from self.now.entries snap_at.index ≡ count) }
     {
         let mut snap_at = self.last_spot()?;
         let mut found = 0;
@@ -63,8 +61,7 @@ impl<T: Drop> LinkedSnaps<T> {
     fn are_gaps_above(&self, end: NumberedSnap, span: u64) -> bool
         requires end { (0 < end.index) × (end.index < length self.now.entries) }
         requires sound { AreSound self.now.entries }
-        ensures { result ≡ true → (k : ℕ) → 0 < k → k < end.index
-            → span < gap_to_go self.now.entries k }
+        ensures { result ≡ true → AreGapsAbove self.now.entries end.index span }
     {
         let first = self.first();
         let mut time = self.entry(first).time;
@@ -85,7 +82,7 @@ impl<T: Drop> LinkedSnaps<T> {
         requires snap_at { IsNumberedSnap self.old snap_at }
         requires whole { GoesWhole self.old.entries snap_at.index }
         ensures max { self.new.max ≡ self.old.max }
-        ensures left { AreLeft 0 self.old.entries self.old.loads self.new.entries self.new.loads }
+        ensures left { IsHalved self.old self.new }
     {
         let mut last = self.len() - 1;
         let mut snap_at = snap_at;

@@ -1,10 +1,12 @@
 //! Snapshots with their loads: each stays at its place, and links keep their order.
 //! Which of them are removed is decided in `removal`.
-ghost use Rattle.std.specs.Prelude.{◌≡◌, ◌≢◌, ℕ, ◌+◌, ◌-◌, ◌<◌, ◌≤◌, [], ◌∷◌, ◌++◌, false, length, map, slice_get, remove, Contains, Some, None, IfOk, IfSome, vec_capacity};
+ghost use Rattle.std.specs.Prelude.{◌≡◌, ◌+◌, ◌-◌, ◌<◌, ◌≤◌, [], ◌∷◌, ◌++◌, length, map, slice_get, Contains, Some, None, IfOk, IfSome, vec_capacity};
 ghost use Rattle.std.specs.Option.{option_map};
 ghost use Rattle.massif_cull.specs.ArrayState.{AreSound};
-ghost use Rattle.massif_cull.specs.Entries.{end_peak, is_peak_at};
+ghost use Rattle.massif_cull.specs.Entries.{NoOtherIsPeak, end_peak};
 ghost use Rattle.massif_cull.specs.Held.{ended};
+ghost use Rattle.massif_cull.specs.LinksState.{IsNext, IsPrevious, WhereIs};
+ghost use Rattle.massif_cull.specs.Removed.{HoldsAt, Removes};
 ghost use Rattle.massif_cull.specs.SnapsState.{ArePlaced, IsNumberedSnap};
 
 use crate::links::Links;
@@ -68,12 +70,8 @@ impl<T: Drop> LinkedSnaps<T> {
     /// Removes the snapshot at the snap_at and gives it with its load. The others keep their order and their places.
     pub fn remove(&mut self, snap_at: NumberedSnap) -> Held<T>
         requires { IsNumberedSnap self.old snap_at }
-        ensures max { self.new.max ≡ self.old.max }
-        ensures places { self.new.places ≡ remove self.old.places snap_at.index }
-        ensures entries { self.new.entries ≡ remove self.old.entries snap_at.index }
-        ensures loads { self.new.loads ≡ remove self.old.loads snap_at.index }
-        ensures entry { slice_get self.old.entries snap_at.index ≡ Some result.entry }
-        ensures load { slice_get self.old.loads snap_at.index ≡ Some result.load }
+        ensures removes { Removes self.old self.new snap_at.index }
+        ensures held { HoldsAt self.old snap_at.index result }
     {
         self.take_out(snap_at.place)
     }
@@ -82,16 +80,8 @@ impl<T: Drop> LinkedSnaps<T> {
     pub fn take_out(&mut self, place: u32) -> Held<T>
         requires { Contains self.old.places place }
         ensures max { self.new.max ≡ self.old.max }
-        ensures places { (k : ℕ) → slice_get self.old.places k ≡ Some place
-            → self.new.places ≡ remove self.old.places k }
-        ensures entries { (k : ℕ) → slice_get self.old.places k ≡ Some place
-            → self.new.entries ≡ remove self.old.entries k }
-        ensures loads { (k : ℕ) → slice_get self.old.places k ≡ Some place
-            → self.new.loads ≡ remove self.old.loads k }
-        ensures entry { (k : ℕ) → slice_get self.old.places k ≡ Some place
-            → slice_get self.old.entries k ≡ Some result.entry }
-        ensures load { (k : ℕ) → slice_get self.old.places k ≡ Some place
-            → slice_get self.old.loads k ≡ Some result.load }
+        ensures removes { WhereIs self.old.places place (λ k. Removes self.old self.new k) }
+        ensures held { WhereIs self.old.places place (λ k. HoldsAt self.old k result) }
     {
         self.links.unlink(place);
         self.slots[place as usize].take().unwrap()
@@ -155,8 +145,7 @@ impl<T: Drop> LinkedSnaps<T> {
     /// The place of the next snapshot, and None at the last one's.
     pub fn place_after(&self, place: u32) -> Option<u32>
         requires { Contains self.now.places place }
-        ensures place { (k : ℕ) → slice_get self.now.places k ≡ Some place
-            → result ≡ slice_get self.now.places (k + 1) }
+        ensures place { IsNext self.now.places place result }
         ensures placed { ArePlaced self.now }
     {
         self.links.next(place)
@@ -166,8 +155,7 @@ impl<T: Drop> LinkedSnaps<T> {
     pub fn place_before(&self, place: u32) -> Option<u32>
         requires { Contains self.now.places place }
         ensures front { slice_get self.now.places 0 ≡ Some place → result ≡ None }
-        ensures place { (k : ℕ) → slice_get self.now.places (k + 1) ≡ Some place
-            → result ≡ slice_get self.now.places k }
+        ensures place { IsPrevious self.now.places place result }
     {
         self.links.prev(place)
     }
@@ -240,26 +228,22 @@ impl<T: Drop> LinkedSnaps<T> {
     /// The entry at the place.
     pub fn entry_at(&self, place: u32) -> SnapEntry
         requires { Contains self.now.places place }
-        ensures { (k : ℕ) → slice_get self.now.places k ≡ Some place
-            → slice_get self.now.entries k ≡ Some result }
+        ensures { WhereIs self.now.places place
+            (λ k. slice_get self.now.entries k ≡ Some result) }
     {
         self.held_at(place).entry
     }
 
     fn held(&self, snap_at: NumberedSnap) -> &Held<T>
         requires { IsNumberedSnap self.now snap_at }
-        ensures entry { slice_get self.now.entries snap_at.index ≡ Some result.now.entry }
-        ensures load { slice_get self.now.loads snap_at.index ≡ Some result.now.load }
+        ensures { HoldsAt self.now snap_at.index result.now }
     {
         self.held_at(snap_at.place)
     }
 
     fn held_at(&self, place: u32) -> &Held<T>
         requires { Contains self.now.places place }
-        ensures entry { (k : ℕ) → slice_get self.now.places k ≡ Some place
-            → slice_get self.now.entries k ≡ Some result.now.entry }
-        ensures load { (k : ℕ) → slice_get self.now.places k ≡ Some place
-            → slice_get self.now.loads k ≡ Some result.now.load }
+        ensures { WhereIs self.now.places place (λ k. HoldsAt self.now k result.now) }
     {
         self.slots[place as usize].as_ref().unwrap()
     }
@@ -270,7 +254,7 @@ impl<T: Drop> LinkedSnaps<T> {
         requires { AreSound self.now.entries }
         ensures snap_at { IfSome result (λ snap_at. IsNumberedSnap self.now snap_at) }
         ensures others { IfSome result
-            (λ snap_at. (k : ℕ) → k ≢ snap_at.index → is_peak_at self.now.entries k ≡ false) }
+            (λ snap_at. NoOtherIsPeak self.now.entries snap_at.index) }
         ensures none { result ≡ None → self.now.entries ≡ [] }
     {
         let mut snap_at = self.last_spot()?;

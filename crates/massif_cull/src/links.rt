@@ -1,6 +1,7 @@
 //! Places in an order of their own, each linked to its neighbours. What stands at a place is the user's business.
-ghost use Rattle.std.specs.Prelude.{◌≡◌, ℕ, ◌+◌, ◌-◌, ◌<◌, ◌≤◌, [], ◌∷◌, ◌++◌, length, slice_get, slice_set, remove, Contains, IfOk, IfSome, Some, None, vec_capacity};
+ghost use Rattle.std.specs.Prelude.{◌≡◌, ◌+◌, ◌-◌, ◌<◌, ◌≤◌, [], ◌∷◌, ◌++◌, length, slice_get, slice_set, remove, Contains, IfOk, IfSome, Some, None, vec_capacity};
 ghost use Rattle.massif_cull.specs.Linked.{AreBelow, AreDifferent, unless_end};
+ghost use Rattle.massif_cull.specs.LinksState.{IsNext, IsPrevious, WhereIs};
 
 use hp_num::NoMemory;
 use std::alloc::Global;
@@ -66,8 +67,8 @@ impl Links {
     pub fn unlink(&mut self, place: u32)
         requires { Contains self.old.places place }
         ensures max { self.new.max ≡ self.old.max }
-        ensures removed { (k : ℕ) → slice_get self.old.places k ≡ Some place
-            → self.new.places ≡ remove self.old.places k }
+        ensures removed { WhereIs self.old.places place
+            (λ k. self.new.places ≡ remove self.old.places k) }
         ensures different { AreDifferent self.new.places }
     {
         let before = self.prev[place as usize];
@@ -95,8 +96,7 @@ impl Links {
     /// The place after this one, which must be in the list, and None at the list's end.
     pub fn next(&self, place: u32) -> Option<u32>
         requires { Contains self.now.places place }
-        ensures place { (k : ℕ) → slice_get self.now.places k ≡ Some place
-            → result ≡ slice_get self.now.places (k + 1) }
+        ensures place { IsNext self.now.places place result }
         ensures below { IfSome result (λ next. next < self.now.max) }
     {
         unless_end(self.max, self.next[place as usize])
@@ -106,8 +106,7 @@ impl Links {
     pub fn prev(&self, place: u32) -> Option<u32>
         requires { Contains self.now.places place }
         ensures front { slice_get self.now.places 0 ≡ Some place → result ≡ None }
-        ensures place { (k : ℕ) → slice_get self.now.places (k + 1) ≡ Some place
-            → result ≡ slice_get self.now.places k }
+        ensures place { IsPrevious self.now.places place result }
         ensures below { IfSome result (λ prev. prev < self.now.max) }
     {
         unless_end(self.max, self.prev[place as usize])

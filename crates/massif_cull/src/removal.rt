@@ -1,14 +1,14 @@
 //! Removing snapshots by their times, and the interval of what is left.
 //! When they are culled is decided by the array, and where their end goes whole in `ends`.
-ghost use Rattle.std.specs.Prelude.{◌≡◌, ℕ, ◌+◌, ◌-◌, ◌/◌, ◌<◌, ◌≤◌, ◌^◌, true, false, length, remove, slice_get, slice_index, Contains, Some};
-ghost use Rattle.massif_cull.specs.Among.{AreAmong};
+ghost use Rattle.std.specs.Prelude.{◌≡◌, ◌+◌, ◌-◌, ◌<◌, ◌≤◌, ◌^◌, length, slice_index, Contains};
 ghost use Rattle.massif_cull.specs.ArrayState.{AreSound};
-ghost use Rattle.massif_cull.specs.Culling.{may_go, gap_at, cull};
-ghost use Rattle.massif_cull.specs.Entries.{last_time, times};
+ghost use Rattle.massif_cull.specs.Culled.{AreCulled, CanCull};
+ghost use Rattle.massif_cull.specs.Entries.{times};
 ghost use Rattle.massif_cull.specs.Interval.{least_interval};
-ghost use Rattle.massif_cull.specs.Keyed.{AreKeyed, RemovesNext, gap_to_go};
-ghost use Rattle.massif_cull.specs.Left.{AreLeft};
-ghost use Rattle.massif_cull.specs.Loads.{loads_cull};
+ghost use Rattle.massif_cull.specs.Keyed.{AreGapsOf, RemovesNext, gap_to_go, key_of};
+ghost use Rattle.massif_cull.specs.Left.{AreLeft, IsHalved};
+ghost use Rattle.massif_cull.specs.LinksState.{WhereIs};
+ghost use Rattle.massif_cull.specs.Removed.{Removes};
 ghost use Rattle.massif_cull.specs.SnapsState.{IsNumberedSnap};
 
 use crate::gaps::{Gaps, Key, NEVER};
@@ -21,21 +21,12 @@ impl<T: Drop> LinkedSnaps<T> {
     /// neighbours that are left. `gaps` has a key for each place; what they are before and behind the call doesn't matter. It
     /// takes no memory.
     pub fn cull(&mut self, gaps: &mut Gaps) -> u64
-        requires long { 6 ≤ length self.old.entries }
-        requires sound { AreSound self.old.entries }
-        requires gaps { length gaps.old.keys ≡ self.old.max }
+        requires room { CanCull self.old gaps.old }
         ensures gaps { length gaps.new.keys ≡ length gaps.old.keys }
         ensures max { self.new.max ≡ self.old.max }
-        ensures entries { self.new.entries ≡ cull self.old.entries }
-        ensures loads { self.new.loads ≡ loads_cull self.old.entries self.old.loads }
+        ensures snapshots { AreCulled self.old.entries self.old.loads self.new.entries self.new.loads }
         ensures interval { result ≡ least_interval self.new.entries }
         ensures interval_most { result ≤ 2 ^ 62 }
-        ensures length { length self.new.entries + length self.old.entries / 2
-            ≡ length self.old.entries }
-        ensures loads_beside { length self.new.loads ≡ length self.new.entries }
-        ensures sound_still { AreSound self.new.entries }
-        ensures last { last_time self.new.entries ≡ last_time self.old.entries }
-        ensures among { AreAmong self.old.entries self.old.loads self.new.entries self.new.loads }
     {
         self.remove_half(gaps);
         self.least_difference()
@@ -43,12 +34,10 @@ impl<T: Drop> LinkedSnaps<T> {
 
     /// Removes half of the snapshots, rounded down, with their loads.
     fn remove_half(&mut self, gaps: &mut Gaps)
-        requires long { 6 ≤ length self.old.entries }
-        requires sound { AreSound self.old.entries }
-        requires gaps { length gaps.old.keys ≡ self.old.max }
+        requires room { CanCull self.old gaps.old }
         ensures gaps { length gaps.new.keys ≡ length gaps.old.keys }
         ensures max { self.new.max ≡ self.old.max }
-        ensures left { AreLeft 0 self.old.entries self.old.loads self.new.entries self.new.loads }
+        ensures left { IsHalved self.old self.new }
     {
         match self.whole_end() {
             Some(snap_at) => self.remove_end(snap_at),
@@ -58,12 +47,10 @@ impl<T: Drop> LinkedSnaps<T> {
 
     /// Removes half of the snapshots one by one, each time the one that goes next.
     fn remove_by_gaps(&mut self, gaps: &mut Gaps)
-        requires long { 6 ≤ length self.old.entries }
-        requires sound { AreSound self.old.entries }
-        requires gaps { length gaps.old.keys ≡ self.old.max }
+        requires room { CanCull self.old gaps.old }
         ensures gaps { length gaps.new.keys ≡ length gaps.old.keys }
         ensures max { self.new.max ≡ self.old.max }
-        ensures left { AreLeft 0 self.old.entries self.old.loads self.new.entries self.new.loads }
+        ensures left { IsHalved self.old self.new }
     {
         let left = self.remove_equals();
         if left == 0 {
@@ -109,8 +96,7 @@ impl<T: Drop> LinkedSnaps<T> {
         requires sound { AreSound self.now.entries }
         requires gaps { length gaps.old.keys ≡ self.now.max }
         ensures gaps { length gaps.new.keys ≡ length gaps.old.keys }
-        ensures keyed { AreKeyed self.now.places self.now.entries gaps.new.keys }
-        ensures ready { gaps.new.ready ≡ true }
+        ensures keyed { AreGapsOf self.now gaps.new }
     {
         gaps.clear();
         let last = self.len() - 1;
@@ -142,10 +128,7 @@ impl<T: Drop> LinkedSnaps<T> {
     pub(crate) fn remove_at(&mut self, snap_at: NumberedSnap) -> NumberedSnap
         requires snap_at { IsNumberedSnap self.old snap_at }
         requires inside { snap_at.index + 1 < length self.old.entries }
-        ensures max { self.new.max ≡ self.old.max }
-        ensures places { self.new.places ≡ remove self.old.places snap_at.index }
-        ensures entries { self.new.entries ≡ remove self.old.entries snap_at.index }
-        ensures loads { self.new.loads ≡ remove self.old.loads snap_at.index }
+        ensures removes { Removes self.old self.new snap_at.index }
         ensures snap_at { IsNumberedSnap self.new result }
         ensures index { result.index ≡ snap_at.index }
     {
@@ -161,11 +144,7 @@ impl<T: Drop> LinkedSnaps<T> {
     fn key(&self, snap_at: NumberedSnap) -> Key
         requires snap_at { IsNumberedSnap self.now snap_at }
         requires sound { AreSound self.now.entries }
-        ensures { result ≡ record {
-          gap = gap_to_go self.now.entries snap_at.index;
-          number = snap_at.index;
-          place = snap_at.place;
-        } }
+        ensures { result ≡ key_of self.now.entries snap_at }
     {
         Key {
             gap: self.gap(snap_at.place),
@@ -179,8 +158,7 @@ impl<T: Drop> LinkedSnaps<T> {
     fn gap(&self, place: u32) -> u64
         requires held { Contains self.now.places place }
         requires sound { AreSound self.now.entries }
-        ensures { (k : ℕ) → slice_get self.now.places k ≡ Some place
-            → result ≡ gap_to_go self.now.entries k }
+        ensures { WhereIs self.now.places place (λ k. result ≡ gap_to_go self.now.entries k) }
     {
         let Some(before) = self.place_before(place) else {
             return NEVER;
@@ -199,12 +177,9 @@ impl<T: Drop> LinkedSnaps<T> {
     fn remove_next(&mut self, gaps: &mut Gaps)
         requires long { 4 ≤ length self.old.entries }
         requires sound { AreSound self.old.entries }
-        requires keyed { AreKeyed self.old.places self.old.entries gaps.old.keys }
-        requires ready { gaps.old.ready ≡ true }
-        ensures max { self.new.max ≡ self.old.max }
+        requires keyed { AreGapsOf self.old gaps.old }
         ensures removed { RemovesNext self.old self.new }
-        ensures keyed { AreKeyed self.new.places self.new.entries gaps.new.keys }
-        ensures ready { gaps.new.ready ≡ true }
+        ensures keyed { AreGapsOf self.new gaps.new }
         ensures gaps { length gaps.new.keys ≡ length gaps.old.keys }
     {
         let place = gaps.first().place;

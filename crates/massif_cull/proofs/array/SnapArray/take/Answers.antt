@@ -22,7 +22,7 @@ returns-in-No-clause-takes g c =
       loads = none-loads c.args.self.now c.args.offer c.args.load sound taken;
       origins = come-from old.kept.entries old.loads c.args.offer c.args.load _ _ _ sound.loads_beside
           (none-among old.kept.entries old.loads c.args.offer c.args.load _ c.in-No.is);
-      last = c.requires.in_order;
+      last = c.requires.follows.in_order;
       below_max = sound.below_max;
     }
 
@@ -35,18 +35,18 @@ returns-in-Normal-clause-takes g c =
     let kept = normal-kept _ _ _ c.args.offer c.snapshot.result taken c.snapshot.ensures c.take_normal.ensures.kept in
     record {
       stands =
-          λ offers stands. stands-push old c.take_normal.new.self offers c.args.offer c.take_normal.ensures.settings kept
+          λ offers stands. stands-push old c.take_normal.new.self offers c.args.offer c.take_normal.ensures.takes.settings kept
           stands;
-      settings = c.take_normal.ensures.settings;
+      settings = c.take_normal.ensures.takes.settings;
       kept = kept;
       loads =
           normal-loads _ old.kept c.args.offer c.snapshot.result _ _ _ taken c.snapshot.ensures
-          c.take_normal.ensures.loads;
+          c.take_normal.ensures.takes.loads_left;
       origins =
           origins-normal old.kept.entries old.loads c.args.offer c.args.load _ c.snapshot.result _ _ sound.loads_beside
-          c.in-Normal.is c.snapshot.ensures c.take_normal.ensures.among;
+          c.in-Normal.is c.snapshot.ensures c.take_normal.ensures.takes.among;
       last = search rules;
-      below_max = c.take_normal.ensures.below_max;
+      below_max = c.take_normal.ensures.takes.below_max;
     }
 
 pub returns-in-Detailed-clause-takes : goal.returns-in-Detailed-clause-takes
@@ -61,18 +61,18 @@ returns-in-Detailed-clause-takes g c =
     record {
       stands =
           λ offers stands. stands-push old c.take_normal-in-Detailed.new.self offers c.args.offer
-          c.take_normal-in-Detailed.ensures.settings kept stands;
-      settings = c.take_normal-in-Detailed.ensures.settings;
+          c.take_normal-in-Detailed.ensures.takes.settings kept stands;
+      settings = c.take_normal-in-Detailed.ensures.takes.settings;
       kept = kept;
       loads =
           detailed-loads _ old.kept c.args.offer c.snapshot-in-Detailed.result _ _ _ taken c.snapshot-in-Detailed.ensures
-          c.take_normal-in-Detailed.ensures.loads;
+          c.take_normal-in-Detailed.ensures.takes.loads_left;
       origins =
           origins-detailed old.kept.entries old.loads c.args.offer c.args.load _ c.snapshot-in-Detailed.result _ _
           sound.loads_beside c.in-Detailed.is
-          c.snapshot-in-Detailed.ensures c.take_normal-in-Detailed.ensures.among;
+          c.snapshot-in-Detailed.ensures c.take_normal-in-Detailed.ensures.takes.among;
       last = search rules;
-      below_max = c.take_normal-in-Detailed.ensures.below_max;
+      below_max = c.take_normal-in-Detailed.ensures.takes.below_max;
     }
 
 pub returns-in-Peak-clause-takes : goal.returns-in-Peak-clause-takes
@@ -86,16 +86,16 @@ returns-in-Peak-clause-takes g c =
     c.take_peak.ensures.kept in
     record {
       stands =
-          λ offers stands. stands-push old c.take_peak.new.self offers c.args.offer c.take_peak.ensures.settings kept
+          λ offers stands. stands-push old c.take_peak.new.self offers c.args.offer c.take_peak.ensures.takes.settings kept
           stands;
-      settings = c.take_peak.ensures.settings;
+      settings = c.take_peak.ensures.takes.settings;
       kept = kept;
       loads =
           peak-loads _ old.kept c.args.offer c.snapshot-in-Peak.result _ _ _ taken c.snapshot-in-Peak.ensures
-          c.take_peak.ensures.loads;
+          c.take_peak.ensures.takes.loads_left;
       origins =
           origins-peak old.kept.entries old.loads c.args.offer c.args.load _ c.snapshot-in-Peak.result _ _
-          sound.loads_beside c.in-Peak.is c.snapshot-in-Peak.ensures c.take_peak.ensures.among;
+          sound.loads_beside c.in-Peak.is c.snapshot-in-Peak.ensures c.take_peak.ensures.takes.among;
       last = search rules;
-      below_max = c.take_peak.ensures.below_max;
+      below_max = c.take_peak.ensures.takes.below_max;
     }

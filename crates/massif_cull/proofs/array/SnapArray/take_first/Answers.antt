@@ -10,8 +10,8 @@ invariant_of-self g c =
     let before = c.self.invariant.0 in
     let old = c.self.inside.snaps in
     let place = c.first.result.index in
-    let entries_left = c.remove-load.ensures.entries in
-    let loads_left = c.remove-load.ensures.loads in
+    let entries_left = c.remove-load.ensures.removes.entries in
+    let loads_left = c.remove-load.ensures.removes.loads in
     let inside : place < length old.entries =
     omega (arith, c.first.ensures.index, c.if-len-eq0.false, c.len.ensures.entries) in
     let fewer : length c.remove-load.new.self.entries + 1 ≡ length old.entries =
@@ -28,7 +28,7 @@ invariant_of-self g c =
         last_peak_most = before.last_peak_most;
         normals_below = before.normals_below;
       },
-      record { max = c.remove-load.ensures.max ∙ c.self.invariant.1.max; gaps = c.self.invariant.1.gaps },
+      record { max = c.remove-load.ensures.removes.max ∙ c.self.invariant.1.max; gaps = c.self.invariant.1.gaps },
       record {
         normal = c.normal_from-self-inside.ensures.time;
         normal_most = c.normal_from-self-inside.ensures.most;
@@ -42,5 +42,5 @@ normal_from-self-inside-requires-clause-sound g c =
     let place = c.first.result.index in
     let inside : place < length old.entries =
     omega (arith, c.first.ensures.index, c.if-len-eq0.false, c.len.ensures.entries) in
-    subst AreSound (sym c.remove-load.ensures.entries)
+    subst AreSound (sym c.remove-load.ensures.removes.entries)
     (sound-remove old.entries place inside c.self.invariant.0.entries)

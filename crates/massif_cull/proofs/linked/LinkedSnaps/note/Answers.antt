@@ -55,9 +55,12 @@ returns g c =
     let counted = c.len-last.ensures.entries in
     record {
       gaps = ap length c.build.ensures.keys ∙ count ∙ sym c.requires.gaps;
-      keyed =
-          subst (λ (ks : List Key). AreKeyed c.args.self.now.places c.args.self.now.entries ks) (sym c.build.ensures.keys)
-          (numbered-all _ _ _ _ beside placed.different
-          (subst (λ (n : ℕ). AreBelow n c.args.self.now.places) (sym count) placed.below) (omega arith) numbered);
-      ready = c.build.ensures.ready;
+      keyed = record {
+        keyed =
+            subst (λ (ks : List Key). AreKeyed c.args.self.now.places c.args.self.now.entries ks)
+            (sym c.build.ensures.keys)
+            (numbered-all _ _ _ _ beside placed.different
+            (subst (λ (n : ℕ). AreBelow n c.args.self.now.places) (sym count) placed.below) (omega arith) numbered);
+        ready = c.build.ensures.ready;
+      };
     }

@@ -7,7 +7,7 @@ pub returns-clause-snap_at : goal.returns-clause-snap_at
 returns-clause-snap_at g c =
     let places = c.args.self.now.places in
     let index = c.args.snap_at.index in
-    ap (λ (ps : List ℕ). slice_get ps index) c.remove.ensures.places
+    ap (λ (ps : List ℕ). slice_get ps index) c.remove.ensures.removes.places
     ∙ get-remove_above places index index (omega arith)
     ∙ ap (slice_get places)
     (let next : suc index ≡ c.after-next.result.index = omega (arith, c.after-next.ensures.index) in next)

@@ -7,13 +7,12 @@ pub each_removal-init : goal.each_removal-init
 each_removal-init g c = record {
   left = left-same _ _ _ _ _ _ (omega arith) c.remove_equals-left.ensures.left;
   max = c.remove_equals-left.ensures.max;
-  keys = c.note.ensures.gaps ∙ c.requires.gaps;
+  keys = c.note.ensures.gaps ∙ c.requires.room.keys;
   keyed = c.note.ensures.keyed;
-  ready = c.note.ensures.ready;
 }
 
 pub remove_next-requires-clause-long : goal.remove_next-requires-clause-long
-remove_next-requires-clause-long g c = left-long _ _ _ _ _ c.requires.long (omega arith) c.each_removal.invariant.left
+remove_next-requires-clause-long g c = left-long _ _ _ _ _ c.requires.room.long (omega arith) c.each_removal.invariant.left
 
 pub remove_next-requires-clause-sound : goal.remove_next-requires-clause-sound
 remove_next-requires-clause-sound g c = c.each_removal.invariant.left.sound
@@ -26,10 +25,9 @@ each_removal-preserved g c =
       left =
           left-at_more _ _ _ _ _ _ _ _ _ (omega arith) removed.goes removed.inside removed.entries removed.loads
           so_far.left;
-      max = c.remove_next.ensures.max ∙ so_far.max;
+      max = removed.max ∙ so_far.max;
       keys = c.remove_next.ensures.gaps ∙ so_far.keys;
       keyed = c.remove_next.ensures.keyed;
-      ready = c.remove_next.ensures.ready;
     }
 
 pub returns-clause-left : goal.returns-clause-left

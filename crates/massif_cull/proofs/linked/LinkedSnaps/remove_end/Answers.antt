@@ -60,15 +60,15 @@ end-preserved g c =
     let last = so_far.last in
     let place = c.args.snap_at.index in
     let now = c.remove_at-snap_at.new.self in
-    let removed = c.remove_at-snap_at.ensures.entries in
-    let removed_loads = c.remove_at-snap_at.ensures.loads in
+    let removed = c.remove_at-snap_at.ensures.removes.entries in
+    let removed_loads = c.remove_at-snap_at.ensures.removes.loads in
     let normal : is_peak_at c.end.self.entries c.end.snap_at.index ≡ false =
     peak-of c.end.self.entries _ _ c.entry.ensures ∙ sym c.is_peak_entry.ensures ∙ c.if-is_peak_entry.false in
     let shorter : length c.remove_at-snap_at.new.self.entries + 1 ≡ length c.end.self.entries =
     ap (λ (es : List SnapEntry). length es + 1) removed
     ∙ length-remove c.end.self.entries c.end.snap_at.index (omega arith) in
     record {
-      max = c.remove_at-snap_at.ensures.max ∙ so_far.max;
+      max = c.remove_at-snap_at.ensures.removes.max ∙ so_far.max;
       snap_at = c.remove_at-snap_at.ensures.snap_at;
       last = omega arith;
       inside = omega arith;

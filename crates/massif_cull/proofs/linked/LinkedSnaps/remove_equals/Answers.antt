@@ -60,22 +60,22 @@ walk-preserved g c =
     let place = goes-next _ _ so_far.passed equal.0 equal.1 in
     let same = c.remove_at-snap_at.ensures.index in
     let shorter : length c.remove_at-snap_at.new.self.entries + 1 ≡ length c.walk.self.entries =
-    ap (λ (es : List SnapEntry). length es + 1) c.remove_at-snap_at.ensures.entries
+    ap (λ (es : List SnapEntry). length es + 1) c.remove_at-snap_at.ensures.removes.entries
     ∙ length-remove c.walk.self.entries c.walk.snap_at.index (omega arith) in
     let before : c.walk.snap_at.index - 1 ≡ c.remove_at-snap_at.result.index - 1 = omega arith in
     record {
       left =
-          left-at_more _ _ _ _ _ _ _ _ _ (omega arith) place inside c.remove_at-snap_at.ensures.entries
-          c.remove_at-snap_at.ensures.loads so_far.left;
-      max = c.remove_at-snap_at.ensures.max ∙ so_far.max;
+          left-at_more _ _ _ _ _ _ _ _ _ (omega arith) place inside c.remove_at-snap_at.ensures.removes.entries
+          c.remove_at-snap_at.ensures.removes.loads so_far.left;
+      max = c.remove_at-snap_at.ensures.removes.max ∙ so_far.max;
       snap_at = c.remove_at-snap_at.ensures.snap_at;
       some = omega arith;
       last = omega arith;
       inside = omega arith;
-      passed = passed-removed _ _ _ _ c.remove_at-snap_at.ensures.entries same so_far.left.sound inside so_far.passed;
+      passed = passed-removed _ _ _ _ c.remove_at-snap_at.ensures.removes.entries same so_far.left.sound inside so_far.passed;
       time = so_far.time
           ∙ sym (time-below c.walk.self.entries c.walk.snap_at.index (c.walk.snap_at.index - 1) (omega arith) (omega arith))
           ∙ ap (λ (es : List SnapEntry). slice_index (times es) (c.walk.snap_at.index - 1))
-          (sym c.remove_at-snap_at.ensures.entries)
+          (sym c.remove_at-snap_at.ensures.removes.entries)
           ∙ ap (slice_index (times c.remove_at-snap_at.new.self.entries)) before;
     }

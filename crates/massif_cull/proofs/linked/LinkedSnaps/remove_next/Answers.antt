@@ -8,17 +8,17 @@ use Rattle.massif_cull.proofs.SnapsLemmas.{contains-at, some-inside}
 use Rattle.massif_cull.proofs.linked.LinkedSnaps.remove_next.Goals as goal
 
 pub first-place-requires-clause-some : goal.first-place-requires-clause-some
-first-place-requires-clause-some g c = keys-some _ _ _ c.requires.keyed c.requires.long
+first-place-requires-clause-some g c = keys-some _ _ _ c.requires.keyed.keyed c.requires.long
 
 pub place_before-requires : goal.place_before-requires
 place_before-requires g c =
-    let next = next-goes _ _ _ _ c.requires.keyed c.requires.sound c.requires.long c.first-place.ensures in
+    let next = next-goes _ _ _ _ c.requires.keyed.keyed c.requires.sound c.requires.long c.first-place.ensures in
     contains-at _ _ _ next.at
 
 pub unwrap-before-requires : goal.unwrap-before-requires
 unwrap-before-requires g c =
     let places = c.args.self.now.places in
-    let next = next-goes _ _ _ _ c.requires.keyed c.requires.sound c.requires.long c.first-place.ensures in
+    let next = next-goes _ _ _ _ c.requires.keyed.keyed c.requires.sound c.requires.long c.first-place.ensures in
     let some = next.some in
     let back : next.index - 1 + 1 ≡ next.index = omega arith in
     let within = slice_get_within places next.index _ next.at in
@@ -27,87 +27,87 @@ unwrap-before-requires g c =
 
 pub place_after-requires : goal.place_after-requires
 place_after-requires g c =
-    let next = next-goes _ _ _ _ c.requires.keyed c.requires.sound c.requires.long c.first-place.ensures in
+    let next = next-goes _ _ _ _ c.requires.keyed.keyed c.requires.sound c.requires.long c.first-place.ensures in
     contains-at _ _ _ next.at
 
 pub unwrap-after-requires : goal.unwrap-after-requires
 unwrap-after-requires g c =
     let places = c.args.self.now.places in
-    let next = next-goes _ _ _ _ c.requires.keyed c.requires.sound c.requires.long c.first-place.ensures in
+    let next = next-goes _ _ _ _ c.requires.keyed.keyed c.requires.sound c.requires.long c.first-place.ensures in
     let inside = next.inside in
-    let beside = c.requires.keyed.beside in
+    let beside = c.requires.keyed.keyed.beside in
     some-inside places (next.index + 1) _ (c.place_after.ensures.place next.index next.at) (omega arith)
 
 pub take_out-requires : goal.take_out-requires
 take_out-requires g c =
-    let next = next-goes _ _ _ _ c.requires.keyed c.requires.sound c.requires.long c.first-place.ensures in
+    let next = next-goes _ _ _ _ c.requires.keyed.keyed c.requires.sound c.requires.long c.first-place.ensures in
     contains-at _ _ _ next.at
 
 pub set_gap-requires-clause-inside : goal.set_gap-requires-clause-inside
 set_gap-requires-clause-inside g c =
-    let next = next-goes _ _ _ _ c.requires.keyed c.requires.sound c.requires.long c.first-place.ensures in
-    key-inside _ _ _ _ _ c.requires.keyed next.at
+    let next = next-goes _ _ _ _ c.requires.keyed.keyed c.requires.sound c.requires.long c.first-place.ensures in
+    key-inside _ _ _ _ _ c.requires.keyed.keyed next.at
 
 pub gap-requires-clause-held : goal.gap-requires-clause-held
 gap-requires-clause-held g c =
     let places = c.args.self.now.places in
-    let next = next-goes _ _ _ _ c.requires.keyed c.requires.sound c.requires.long c.first-place.ensures in
+    let next = next-goes _ _ _ _ c.requires.keyed.keyed c.requires.sound c.requires.long c.first-place.ensures in
     let some = next.some in
     let back : next.index - 1 + 1 ≡ next.index = omega arith in
     let at_before : slice_get places (next.index - 1) ≡ Some c.unwrap-before.result =
     sym (c.place_before.ensures.place (next.index - 1) (ap (slice_get places) back ∙ next.at)) ∙ c.unwrap-before.ensures
     in
     contains-at _ (next.index - 1) _
-    (ap (λ (ps : List ℕ). slice_get ps (next.index - 1)) (c.take_out.ensures.places next.index next.at)
+    (ap (λ (ps : List ℕ). slice_get ps (next.index - 1)) (c.take_out.ensures.removes next.index next.at).places
     ∙ get-remove_below places next.index (next.index - 1) (omega arith)
     ∙ at_before)
 
 pub gap-requires-clause-sound : goal.gap-requires-clause-sound
 gap-requires-clause-sound g c =
-    let next = next-goes _ _ _ _ c.requires.keyed c.requires.sound c.requires.long c.first-place.ensures in
+    let next = next-goes _ _ _ _ c.requires.keyed.keyed c.requires.sound c.requires.long c.first-place.ensures in
     let inside = next.inside in
-    subst AreSound (sym (c.take_out.ensures.entries next.index next.at))
+    subst AreSound (sym (c.take_out.ensures.removes next.index next.at).entries)
     (sound-remove c.args.self.now.entries next.index (omega arith) c.requires.sound)
 
 pub set_gap-requires-2-clause-inside : goal.set_gap-requires-2-clause-inside
 set_gap-requires-2-clause-inside g c =
     let places = c.args.self.now.places in
-    let next = next-goes _ _ _ _ c.requires.keyed c.requires.sound c.requires.long c.first-place.ensures in
+    let next = next-goes _ _ _ _ c.requires.keyed.keyed c.requires.sound c.requires.long c.first-place.ensures in
     let some = next.some in
     let back : next.index - 1 + 1 ≡ next.index = omega arith in
     let at_before : slice_get places (next.index - 1) ≡ Some c.unwrap-before.result =
     sym (c.place_before.ensures.place (next.index - 1) (ap (slice_get places) back ∙ next.at)) ∙ c.unwrap-before.ensures
     in
-    let inside = key-inside _ _ _ _ _ c.requires.keyed at_before in
+    let inside = key-inside _ _ _ _ _ c.requires.keyed.keyed at_before in
     omega (arith, inside, length-with_gap _ _ _ _ c.set_gap.ensures.keys)
 
 pub gap-requires-2-clause-held : goal.gap-requires-2-clause-held
 gap-requires-2-clause-held g c =
     let places = c.args.self.now.places in
-    let next = next-goes _ _ _ _ c.requires.keyed c.requires.sound c.requires.long c.first-place.ensures in
+    let next = next-goes _ _ _ _ c.requires.keyed.keyed c.requires.sound c.requires.long c.first-place.ensures in
     let follows : suc next.index ≡ next.index + 1 = omega arith in
     let at_after : slice_get places (next.index + 1) ≡ Some c.unwrap-after.result =
     sym (c.place_after.ensures.place next.index next.at) ∙ c.unwrap-after.ensures in
     contains-at _ next.index _
-    (ap (λ (ps : List ℕ). slice_get ps next.index) (c.take_out.ensures.places next.index next.at)
+    (ap (λ (ps : List ℕ). slice_get ps next.index) (c.take_out.ensures.removes next.index next.at).places
     ∙ get-remove_above places next.index next.index (omega arith)
     ∙ ap (slice_get places) follows
     ∙ at_after)
 
 pub gap-requires-2-clause-sound : goal.gap-requires-2-clause-sound
 gap-requires-2-clause-sound g c =
-    let next = next-goes _ _ _ _ c.requires.keyed c.requires.sound c.requires.long c.first-place.ensures in
+    let next = next-goes _ _ _ _ c.requires.keyed.keyed c.requires.sound c.requires.long c.first-place.ensures in
     let inside = next.inside in
-    subst AreSound (sym (c.take_out.ensures.entries next.index next.at))
+    subst AreSound (sym (c.take_out.ensures.removes next.index next.at).entries)
     (sound-remove c.args.self.now.entries next.index (omega arith) c.requires.sound)
 
 pub set_gap-requires-3-clause-inside : goal.set_gap-requires-3-clause-inside
 set_gap-requires-3-clause-inside g c =
     let places = c.args.self.now.places in
-    let next = next-goes _ _ _ _ c.requires.keyed c.requires.sound c.requires.long c.first-place.ensures in
+    let next = next-goes _ _ _ _ c.requires.keyed.keyed c.requires.sound c.requires.long c.first-place.ensures in
     let at_after : slice_get places (next.index + 1) ≡ Some c.unwrap-after.result =
     sym (c.place_after.ensures.place next.index next.at) ∙ c.unwrap-after.ensures in
-    let inside = key-inside _ _ _ _ _ c.requires.keyed at_after in
+    let inside = key-inside _ _ _ _ _ c.requires.keyed.keyed at_after in
     omega (
       arith,
       inside,
@@ -117,13 +117,14 @@ set_gap-requires-3-clause-inside g c =
 
 pub returns-clause-removed : goal.returns-clause-removed
 returns-clause-removed g c =
-    let next = next-goes _ _ _ _ c.requires.keyed c.requires.sound c.requires.long c.first-place.ensures in
+    let next = next-goes _ _ _ _ c.requires.keyed.keyed c.requires.sound c.requires.long c.first-place.ensures in
     record {
       index = next.index;
+      max = c.take_out.ensures.max;
       goes = next.goes;
       inside = next.inside;
-      entries = c.take_out.ensures.entries next.index next.at;
-      loads = c.take_out.ensures.loads next.index next.at;
+      entries = (c.take_out.ensures.removes next.index next.at).entries;
+      loads = (c.take_out.ensures.removes next.index next.at).loads;
     }
 
 pub returns-clause-gaps : goal.returns-clause-gaps
@@ -134,11 +135,11 @@ returns-clause-gaps g c =
 pub returns-clause-keyed : goal.returns-clause-keyed
 returns-clause-keyed g c =
     let places = c.args.self.now.places in
-    let next = next-goes _ _ _ _ c.requires.keyed c.requires.sound c.requires.long c.first-place.ensures in
+    let next = next-goes _ _ _ _ c.requires.keyed.keyed c.requires.sound c.requires.long c.first-place.ensures in
     let some = next.some in
     let back : next.index - 1 + 1 ≡ next.index = omega arith in
     let follows : suc next.index ≡ next.index + 1 = omega arith in
-    let is_places = c.take_out.ensures.places next.index next.at in
+    let is_places = (c.take_out.ensures.removes next.index next.at).places in
     let at_before : slice_get places (next.index - 1) ≡ Some c.unwrap-before.result =
     sym (c.place_before.ensures.place (next.index - 1) (ap (slice_get places) back ∙ next.at)) ∙ c.unwrap-before.ensures
     in
@@ -150,6 +151,10 @@ returns-clause-keyed g c =
     let after = c.gap-2.ensures next.index
     (ap (λ (ps : List ℕ). slice_get ps next.index) is_places
     ∙ get-remove_above places next.index next.index (omega arith) ∙ ap (slice_get places) follows ∙ at_after) in
-    keyed-next _ _ _ _ _ _ _ _ next.index _ _ _ _ _ c.requires.keyed next.at next.some next.inside at_before at_after
-    is_places (c.take_out.ensures.entries next.index next.at) before after c.set_gap.ensures.keys
-    c.set_gap-2.ensures.keys c.set_gap-3.ensures.keys
+    record {
+      keyed =
+          keyed-next _ _ _ _ _ _ _ _ next.index _ _ _ _ _ c.requires.keyed.keyed next.at next.some next.inside at_before
+          at_after is_places (c.take_out.ensures.removes next.index next.at).entries before after c.set_gap.ensures.keys
+          c.set_gap-2.ensures.keys c.set_gap-3.ensures.keys;
+      ready = c.set_gap-3.ensures.ready;
+    }

@@ -5,7 +5,7 @@ use Rattle.massif_cull.specs.declared.linked.Held.{Held}
 use Rattle.massif_cull.specs.declared.linked.LinkedSnaps.TheInside.{Inside}
 use Rattle.massif_cull.specs.Held.{held_at}
 use Rattle.massif_cull.proofs.Linking.{contained-at, each-at}
-use Rattle.massif_cull.proofs.SnapsLemmas.{IsShrunk, place-inside, slot-there, entry-there, load-there, shrunk-entries}
+use Rattle.massif_cull.proofs.SnapsLemmas.{IsShrunk, place-inside, slot-there, holds-at, shrunk-entries}
 use Rattle.massif_cull.proofs.SnapsLemmas.{shrunk-loads, shrunk-stays}
 use Rattle.massif_cull.proofs.linked.LinkedSnaps.take_out.Goals as goal
 use Rattle.massif_cull.proofs.linked.LinkedSnaps.take_out.Given.{Over}
@@ -53,36 +53,22 @@ invariant_of-self g c =
     let found = contained-at _ _ held in
     shrunk-stays c.self.inside (after g c) _ _ c.self.invariant (done g c found.0 found.1)
 
-pub returns-clause-places : goal.returns-clause-places
+pub returns-clause-removes : goal.returns-clause-removes
 unfolding after
-returns-clause-places g c k at =
+returns-clause-removes g c k at =
     let here = rw (← c.self.view_is) at at in
-    rw (← c.self.view_is) (done g c k here).places
+    let shrunk = done g c k here in
+    record {
+      max = rw (← c.self.view_is) shrunk.same_max;
+      places = rw (← c.self.view_is) shrunk.places;
+      entries = rw (← c.self.view_is) (shrunk-entries c.self.inside (after g c) _ _ c.self.invariant shrunk);
+      loads = rw (← c.self.view_is) (shrunk-loads c.self.inside (after g c) _ _ c.self.invariant shrunk);
+    }
 
-pub returns-clause-entries : goal.returns-clause-entries
-unfolding after
-returns-clause-entries g c k at =
-    let here = rw (← c.self.view_is) at at in
-    rw (← c.self.view_is) (shrunk-entries c.self.inside (after g c) _ _ c.self.invariant (done g c k here))
-
-pub returns-clause-loads : goal.returns-clause-loads
-unfolding after
-returns-clause-loads g c k at =
-    let here = rw (← c.self.view_is) at at in
-    rw (← c.self.view_is) (shrunk-loads c.self.inside (after g c) _ _ c.self.invariant (done g c k here))
-
-pub returns-clause-entry : goal.returns-clause-entry
-returns-clause-entry g c k at =
+pub returns-clause-held : goal.returns-clause-held
+returns-clause-held g c k at =
     let here = rw (← c.self.view_is) at at in
     let there =
     slot-there _ _ _ (place-inside c.self.inside _ _ c.self.invariant here) c.index_mut.ensures.value
     ∙ sym c.take.ensures.value ∙ c.unwrap.ensures in
-    rw (← c.self.view_is) (entry-there c.self.inside _ _ _ c.self.invariant here there)
-
-pub returns-clause-load : goal.returns-clause-load
-returns-clause-load g c k at =
-    let here = rw (← c.self.view_is) at at in
-    let there =
-    slot-there _ _ _ (place-inside c.self.inside _ _ c.self.invariant here) c.index_mut.ensures.value
-    ∙ sym c.take.ensures.value ∙ c.unwrap.ensures in
-    rw (← c.self.view_is) (load-there c.self.inside _ _ _ c.self.invariant here there)
+    rw (← c.self.view_is) (holds-at c.self.inside _ _ _ c.self.invariant here there)
