@@ -1,5 +1,4 @@
--- What a store shows of itself beside its files, and how opening a file changes that. What a store
--- shows at a moment beside its files.
+-- What a store shows of itself at a moment beside its files, and how opening a file changes that.
 use Rattle.std.specs.Prelude.{◌≡◌, ◌+◌, ℕ, Bool, List, Option}
 
 -- a moment of a store

@@ -80,8 +80,8 @@ pub record WholeReadTo (context : RunContext) (name : List ℕ) (before now : Sh
   pub files : now.files ≡ before.files
   pub no_write : status_of result ≢ 4
 
--- a plan was run over files of these names, whatever file was read last before it, and gave a text of these bytes that is ready to
--- be written
+-- a plan was run over files of these names, whatever file was read last before it, and answered the rest of its output, of these
+-- bytes, or a halt
 pub record RunsReady {R : Type 0} (bytes : R → List ℕ) (context : RunContext) (names : List (List ℕ))
     (plan : Plan) (before now : Shown) (old new : Taken) (result : Result R Halt) : Type 0 where
   pub ran : (last : List ℕ)
@@ -92,13 +92,13 @@ pub record RunsReady {R : Type 0} (bytes : R → List ℕ) (context : RunContext
   pub unwritten : status_of result ≡ 4 → Faulted old.faults new.faults
   pub sound : status_of result ≢ 4 → new.faults ≡ old.faults
 
--- the same, and the text is held
+-- the same, where the rest is a vector
 abbrev pub RunsTo : {Z : Type 0} → RunContext → List (List ℕ) → Plan → Shown → Shown → Taken → Taken
     → Result (Vec ℕ Z) Halt → Type 0
 RunsTo context names plan before now old new result =
     RunsReady vec_items context names plan before now old new result
 
--- the four, of a store and an output before it and after it
+-- `ReadsTo`, `WholeReadTo`, `RunsReady` and `RunsTo`, of a store and an output before the call and after it
 abbrev pub Reads : {S O : Type 0} → store.Ghosts S → sink.Ghosts O → RunContext → List ℕ → Report
     → (List (List ℕ) → Type 0) → S → S → O → O → Result (Unit {0}) Halt → Type 0
 Reads s o context name report has_taken before now old new result =
@@ -116,6 +116,7 @@ Readies s o bytes context names plan before now old new result =
     RunsReady bytes context names plan (shown s before) (shown s now) (taken o old) (taken o new)
     result
 
+-- a plan was run, and answered the rest of its output, as a vector, or a halt
 abbrev pub Runs : {S O Z : Type 0} → store.Ghosts S → sink.Ghosts O → RunContext → List (List ℕ) → Plan
     → S → S → O → O → Result (Vec ℕ Z) Halt → Type 0
 Runs s o context names plan before now old new result =

@@ -1,6 +1,5 @@
--- What a run of a program's words may come to, whatever the store tells and does. What a run of
--- words may come to: the usage text where they aren't taken, or want of memory for them, or a run
--- of the plan.
+-- What a run of a program's words may come to, whatever the store tells and does: the usage text
+-- where they aren't taken, or want of memory for them, or a run of the plan.
 use Rattle.std.specs.Prelude.{◌≡◌, ◌≢◌, ◌⊎◌, ℕ, List, [], Option, Some, None}
 use Rattle.std.specs.Io.KnownBytes.{append_known}
 use Rattle.hp_outside.specs.Faults.{Faulted}

@@ -30,7 +30,7 @@ const DEPTH: u32 = 200;
 /// The Massif profile of the profile, whose times are in instructions where its own are, and else in events. Snapshot 0 has
 /// what was live at the peak, and snapshot 1 what was live at the end, each with its whole tree to 200 frames.
 ///
-/// The profile must be as `fronts_of` says. `NoFigures` comes exactly where its points tell of no lifetimes, and then
+/// The profile must be as `dhat_view::fronts_of` says. `NoFigures` comes exactly where its points tell of no lifetimes, and then
 /// `TooLarge` exactly where the time at its end, the bytes that were live at the peak or those that were live at the end are
 /// more than 2^62; both take no memory.
 pub fn massif_of_dhat(alloc: Global, dhat: &Dhat) -> Result<Profile, ConvertFault>

@@ -13,7 +13,8 @@ use dhat_view::{ShownTexts, shown_table};
 use hp_num::NoMemory;
 use std::alloc::Global;
 
-/// For each point of the profile the shown texts of its frames, from the first to the last, or `NoMemory`.
+/// For each point of the profile the shown texts of its frames, from the innermost outwards, or `NoMemory`.
+/// The profile must be sound, as every one is that was read.
 pub(crate) fn point_lists(alloc: Global, dhat: &Dhat) -> Result<ForkedFronts, NoMemory>
     requires sound { IsSound dhat.now }
     ensures lists { IfOk result (λ lists. lists ≡ point_fronts dhat.now) }

@@ -24,7 +24,7 @@ use std::alloc::Global;
 /// line feed. A `;` within a text is written `:`, a point without frames is `(no stack)`, and the lines stand by the first
 /// point that has their list and a figure other than 0. Texts are shown as `put_shown` shows them.
 ///
-/// The profile must be as `fronts_of` says. `NoFigures` comes exactly where the points have no figures of the key, and then
+/// The profile must be as `dhat_view::fronts_of` says. `NoFigures` comes exactly where the points have no figures of the key, and then
 /// `TooLarge` exactly where these sum to more than 2^62; both take no memory. On any fault, `out` holds what it held before.
 pub fn put_folded_dhat(
     alloc: Global,

@@ -1,5 +1,5 @@
--- What contracts see of lists that are cut, and what is true of them. What contracts see of lists
--- that are cut: the whole lists, and the cut ones.
+-- What contracts see of lists that are cut, and what is true of them: the whole lists, and the cut
+-- ones.
 use Rattle.std.specs.Prelude.{ℕ, List, ◌≡◌}
 use Rattle.cost_tree.specs.declared.cut.Cut.{Cut}
 use Rattle.cost_tree.specs.CutShapes.{IsCutOf}

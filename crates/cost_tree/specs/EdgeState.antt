@@ -1,5 +1,5 @@
 -- What contracts see of the edges of a shape: their list. Each begins at an earlier node, which is
--- the one right before its own or an index has its place.
+-- the one right before its own, or an index has the edge's place.
 use Rattle.std.specs.Prelude.{◌≡◌, ℕ, ◌==◌, ◌≤◌, ◌&&◌, ◌⊎◌, Bool, List, Option, Some, slice_get, ◌≢◌}
 use Rattle.cost_tree.specs.declared.edge.Edge.{Edge}
 

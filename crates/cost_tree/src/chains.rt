@@ -86,7 +86,7 @@ impl Chains {
         }
     }
 
-    /// How many numbers the list has, which must be held.
+    /// How many numbers the list of this number has, in constant time. The list must be held.
     pub fn count(&self, list: u32) -> usize
         requires held { list < length self.now }
         ensures count { result ≡ length (slice_index_or self.now list []) }

@@ -43,7 +43,8 @@ impl Edges {
         }
     }
 
-    /// No edges, with room for so many, or `NoMemory`.
+    /// No edges, or `NoMemory`. The list has room for `count` of them, so that it isn't moved; the index has none, so an
+    /// insertion may still take memory.
     pub(crate) fn with_capacity(alloc: Global, count: usize) -> Result<Edges, NoMemory>
         ensures empty { IfOk result (λ edges. edges.keys ≡ []) }
     {
@@ -76,8 +77,8 @@ impl Edges {
         edges
     }
 
-    /// The place of the edge, which is put behind all others where it is new. Its parent must be a node. On `NoMemory` there is
-    /// none more.
+    /// The place of the edge, which is put behind all others where it is new. Its parent must be a node. On `NoMemory` the
+    /// edges are as before.
     pub(crate) fn insert(&mut self, edge: Edge) -> Result<usize, NoMemory>
         requires earlier { edge.parent ≤ length self.old.keys }
         ensures child { IfOk result (λ place. IsChild self.old.keys self.new.keys edge place) }

@@ -43,7 +43,8 @@ impl Shape {
         }
     }
 
-    /// No lists, with room for so many and for as many numbers, or `NoMemory`.
+    /// No lists, or `NoMemory`, with room for the ends of `count` lists and for `count` edges; the index of the edges has
+    /// none.
     pub(crate) fn with_capacity(alloc: Global, count: usize) -> Result<Shape, NoMemory>
         ensures empty { IfOk result (λ shape. shape ≡ []) }
     {

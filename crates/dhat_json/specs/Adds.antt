@@ -7,7 +7,7 @@ use Rattle.serde_json.specs.Data.{Data, null, boolean, number, string, array, ob
 use Rattle.serde_json.specs.Data.{Items, no_items, item, Members, no_members, member}
 use Rattle.serde_json.specs.Written.{outline, members_outline}
 
--- Each number is a whole one of 64 bits.
+-- Each number is whole, without a sign, and below 2^64.
 abbrev pub IsFit : Num → Type 0
 IsFit (unsigned n) = n < 2 ^ 64
 IsFit (negative z) = ⊥
@@ -34,7 +34,8 @@ abbrev mutual
 abbrev pub before_rest : List Token → Members → List Token
 before_rest tokens rest = tokens ++ members_tokens (members_outline rest)
 
--- What was added is what `more` puts before the rest of an object.
+-- The writer gained the tokens of the members that `more` puts before the rest of an object, whatever that rest is; what
+-- its buffer held at the start stays.
 pub record Adds (old new : Written) (more : Members → Members) : Type 0 where
   pub before : new.before ≡ old.before
   pub tokens : (rest : Members) → before_rest old.tokens (more rest) ≡ before_rest new.tokens rest

@@ -1,5 +1,5 @@
--- What stands next among the tokens of a text, as data, with the tokens behind it. A value whose
--- numbers are in range has data, for private clauses.
+-- For private clauses: what stands next among the tokens of a text, as data, with the tokens behind
+-- it; nothing where a number in it is out of range.
 use Rattle.std.specs.Prelude.{◌≡◌, ℕ, List, length, Option, Result, Some, None, MatchResult}
 use Rattle.std.specs.Option.{option_map}
 use Rattle.json.specs.Token.{Token}
@@ -14,7 +14,7 @@ use Rattle.dhat_json.specs.Reads.{UnlessNoMemory}
 abbrev pub value_ahead : ℕ → List Token → Option (Data × List Token)
 value_ahead depth ts = converted of_json (value depth ts)
 
--- the items of a list, and its bracket
+-- the items of a list up to its closing bracket, and the tokens behind it
 abbrev pub items_ahead : ℕ → List Token → Option (Items × List Token)
 items_ahead depth ts = converted of_items (items (value depth) (length ts) ts)
 

@@ -1,5 +1,5 @@
--- The data of a JSON value whose texts are borrowed. A number that is too large for JSON's data
--- gives null, and the last value of a key stays, for private clauses.
+-- The data of a JSON value whose texts are borrowed, for private clauses. A number that is too large
+-- for JSON's data gives null, and the last value of a key stays.
 use Rattle.std.specs.Prelude.{◌&&◌, Bool, true, Option, Some, None, is_some}
 use Rattle.json.specs.Json as json
 use Rattle.json.specs.Value.{value_view}

@@ -20,7 +20,7 @@ texts_data texts = array (items_of (map string texts))
 abbrev pub wholes_data : List ℕ → Data
 wholes_data numbers = array (items_of (map whole numbers))
 
--- a member that is left out where it is absent
+-- a member with a value, and no member where there is no value
 abbrev pub optional : List ℕ → Option Data → Members → Members
 optional key None rest = rest
 optional key (Some d) rest = member key d rest

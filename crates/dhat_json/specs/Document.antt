@@ -11,7 +11,7 @@ use Rattle.dhat_json.specs.DhatFault.{dhat_fault}
 use Rattle.dhat_json.specs.ProfileIn.{profile_in}
 use Rattle.dhat_json.specs.IsDhat.{is_dhat}
 
--- the JSON value of the bytes, where they have one: they are UTF-8, and nest at most 127 deep
+-- the JSON value of the bytes, where they have one: they are UTF-8 and JSON that nests at most 127 deep
 abbrev pub value_of : List ℕ → Option Data
 value_of bytes = if is_utf8 bytes then read bytes else None
 

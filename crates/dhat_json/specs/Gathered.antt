@@ -16,12 +16,13 @@ use Rattle.dhat_json.specs.Reads.{UnlessNoMemory}
 abbrev pub shape_findings : Shape → List Data → List Finding
 shape_findings shape values = points_findings shape.bklt shape.bkacc shape.frames 0 values
 
+-- the fault that is kept is what was found, unless memory was wanting
 abbrev pub FaultIs : Finding → Finding → Type 0
 FaultIs None finding = finding ≡ None
 FaultIs (Some fault) finding = UnlessNoMemory fault (finding ≡ Some fault)
 
--- The items came, and were read in this shape up to the first fault. Where they are too many to be numbered, nothing but
--- that is said.
+-- These items came, and their points were read in the shape that is kept, up to the first fault. Of 2^32 - 1 items or
+-- more only that is said.
 pub record HasGathered (gathered : Gathered) (values : List Data) : Type 0 where
   pub count : length values < 2 ^ 32 - 1 → gathered.count ≡ length values
   pub full : 2 ^ 32 - 1 ≤ length values → gathered.count ≡ 2 ^ 32 - 1
@@ -42,7 +43,7 @@ abbrev pub GathersNext : Gathered → Gathered → Data → Type 0
 GathersNext old new item = (values : List Data) → HasGathered old values
     → HasGathered new (values ++ item ∷ [])
 
--- the items of a list came, which stood next
+-- the items that stood next came, up to their list's closing bracket, where none came before; 125 is `ITEM_DEPTH`
 abbrev pub TakesItems : Gathered → Gathered → List Token → List Token → Type 0
 TakesItems old new ahead behind = (items : Items)
     × (items_ahead 125 ahead ≡ Some (items, behind))

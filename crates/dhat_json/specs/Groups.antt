@@ -27,6 +27,7 @@ run_members dhat rest =
 abbrev pub points_member : List Point → Members → Members
 points_member points rest = member (codes "pps") (array (items_of (map point_value points))) rest
 
+-- the members behind the points: the times, their unit and threshold, and the verb
 abbrev pub time_members : Dhat → Members → Members
 time_members dhat rest =
     member (codes "te") (whole dhat.te)

@@ -11,7 +11,7 @@ pub record IsSoundPoint (bklt bkacc : Bool) (frames : ℕ) (point : Point) : Typ
   pub access : is_some point.access ≡ bkacc
   pub in_table : All (λ frame. frame < frames) point.fs
 
--- every point does, and there are fewer than 2 ^ 32 - 1
+-- each point has these parts and its frames in the table, and there are fewer than 2 ^ 32 - 1 points
 pub record IsSound (dhat : Dhat) : Type 0 where
   pub few : length dhat.pps < 2 ^ 32 - 1
   pub points : All (IsSoundPoint dhat.bklt dhat.bkacc (length dhat.ftbl)) dhat.pps

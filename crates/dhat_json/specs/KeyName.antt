@@ -1,4 +1,4 @@
--- The keys of a profile as they stand in the file. The name of each key, as it stands in the file.
+-- The name of each key of a profile and of its points, as it stands in the file.
 use Rattle.std.specs.Prelude.{ℕ, List, codes}
 use Rattle.dhat_json.specs.declared.key.Key.{Key}
 use Rattle.dhat_json.specs.declared.key.Key.TheVariants.{DhatFileVersion, Mode, Verb, Bklt, Bkacc, Bu, Bsu, Bksu, Tu}

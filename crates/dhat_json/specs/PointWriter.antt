@@ -1,6 +1,6 @@
--- A writer of points has written a profile where its tokens, with those of any points to come and
--- of what stands behind the points, are those of the profile with these points behind its own, and
--- it keeps what stands behind them.
+-- A writer of points has written a profile where, whatever points come next, its tokens, then theirs
+-- and those of the members behind the points, are the tokens of the profile with these added; and the
+-- writer keeps those members.
 use Rattle.std.specs.Prelude.{[], ◌∷◌, ◌++◌}
 use Rattle.dhat_json.specs.declared.point_writer.PointWriter.{PointWriter}
 use Rattle.dhat_json.specs.declared.profile.Dhat.{Dhat}

@@ -1,5 +1,5 @@
--- What a part of the reader answers. Want of memory is the one answer that may come without a
--- cause. What the reader answers is the defined profile or fault, unless memory was wanting.
+-- What a part of the reader answers: the defined profile or fault. Want of memory is the one answer
+-- that may come without a cause.
 use Rattle.std.specs.Prelude.{◌≡◌, Option, Some, None, Result, Ok, Err}
 use Rattle.dhat_json.specs.declared.fault.DhatFault.{DhatFault}
 use Rattle.dhat_json.specs.declared.fault.DhatFault.TheVariants.{NotJson, WrongFileVersion, MissingKey, WrongKind}
@@ -21,7 +21,7 @@ abbrev pub Answers : Result Dhat DhatFault → Result Dhat DhatFault → Type 0
 Answers (Ok dhat) defined = defined ≡ Ok dhat
 Answers (Err fault) defined = UnlessNoMemory fault (defined ≡ Err fault)
 
--- for private clauses: nothing was found and this was read, or the answer is what was found
+-- for private clauses: there is no fault and this was read, or the answer is the fault, or memory was wanting
 abbrev pub Reads : {A : Type 0} → Result A DhatFault → Option DhatFault → A → Type 0
 Reads (Ok x) finding there = (finding ≡ None) × (x ≡ there)
 Reads (Err fault) finding there = UnlessNoMemory fault (finding ≡ Some fault)

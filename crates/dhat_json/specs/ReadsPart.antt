@@ -10,7 +10,8 @@ use Rattle.dhat_json.specs.Kinds.{as_list}
 use Rattle.dhat_json.specs.ProfileIn.{list_at}
 use Rattle.dhat_json.specs.Reads.{Reads}
 
--- a check of the value found nothing and this part was read, or the answer is what was found
+-- a check of the value found no fault and this part was read, or the answer is the fault that it found, or memory was
+-- wanting
 abbrev pub ReadsPart : {A X : Type 0} → Result A DhatFault → (Data → Finding) → (Data → A) → Value X
     → Type 0
 ReadsPart result check part value = Reads result (check (data_of value)) (part (data_of value))

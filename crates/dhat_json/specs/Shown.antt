@@ -1,5 +1,5 @@
--- The shown form of a text: nothing in it ends a line, and it is never empty. A shown text has `?`
--- for each byte below a blank and for a blank at its begin, and is never empty.
+-- The shown form of a text: `?` for each byte below a blank and for a blank that begins it, and `?`
+-- alone for an empty text. So nothing in it ends a line, and it is never empty.
 use Rattle.std.specs.Prelude.{ℕ, ◌==◌, nat_lt, if◌then◌else◌, List, [], ◌∷◌, map}
 
 -- `?` in place of a byte below a blank

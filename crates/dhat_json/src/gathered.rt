@@ -40,7 +40,9 @@ impl Gathered {
         }
     }
 
-    /// Reads the items of a list and its bracket.
+    /// Reads the items of a list, whose opening bracket was read, and its closing one; nothing was gathered before. The
+    /// fault of a point is kept, and ends nothing. `NotJson` comes exactly where no such items stand there, unless memory is
+    /// wanting; after an error neither points nor reader are of use.
     pub(crate) fn take_items(
         &mut self,
         alloc: Global,

@@ -18,7 +18,7 @@ pub enum Key {
     Bkacc,
     /// The unit of sizes, where it isn't bytes.
     Bu,
-    /// The short form of that unit.
+    /// The plural of that unit.
     Bsu,
     /// The unit of blocks, where it isn't blocks.
     Bksu,
@@ -26,11 +26,11 @@ pub enum Key {
     Tu,
     /// That unit times a million.
     Mtu,
-    /// How short a lifetime is worth a remark, in units of time.
+    /// Up to which average lifetime blocks are short-lived, in units of time.
     Tuth,
     /// The command that was run.
     Cmd,
-    /// Its process.
+    /// The ID of its process.
     Pid,
     /// The time at its end.
     Te,

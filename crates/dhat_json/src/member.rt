@@ -41,7 +41,7 @@ pub(crate) fn read_optional_whole(value: &Value, key: Key) -> Result<Option<u64>
     }
 }
 
-/// A flag of the profile.
+/// A flag of the profile that must be there.
 pub(crate) fn read_flag(value: &Value, key: Key) -> Result<bool, DhatFault>
     ensures { ReadsPart result (needed as_bool None key) (flag_at key) value.now }
 {
@@ -54,7 +54,7 @@ pub(crate) fn read_flag(value: &Value, key: Key) -> Result<bool, DhatFault>
     }
 }
 
-/// A text of the profile.
+/// A text of the profile that must be there.
 pub(crate) fn read_text(alloc: Global, value: &Value, key: Key) -> Result<Text, DhatFault>
     ensures read { ReadsPart result (needed as_str None key) (text_at key) value.now }
     ensures utf8 { IfOk result IsUtf8 }

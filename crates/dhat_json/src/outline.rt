@@ -11,7 +11,7 @@ use std::alloc::Global;
 /// How deep arrays and objects may nest in a member of a document.
 pub(crate) const MEMBER_DEPTH: usize = 126;
 
-/// And in an item of a list that is a member.
+/// How deep they may nest in an item of a list that is a member.
 pub(crate) const ITEM_DEPTH: usize = 125;
 
 /// The member that begins with this token, its parts being passed over.

@@ -48,8 +48,8 @@ impl PointWriter {
         put_point(&mut self.out, point)
     }
 
-    /// The text of the profile with the points that were put, which is that of `profile_text`: read again it is the same
-    /// profile, where this is sound. `NoMemory` where memory is wanting.
+    /// The text of the profile with the points that were put, as `profile_text` writes it: read again it is the same profile,
+    /// where that profile is sound. Or `NoMemory`. No `put` may have answered `NoMemory` before.
     pub fn finish(self) -> Result<String, NoMemory>
         requires begun { (dhat : Dhat) × HasWritten self dhat }
         ensures text { IfOk result (λ text. (dhat : Dhat) → HasWritten self dhat

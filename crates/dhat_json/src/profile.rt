@@ -62,7 +62,7 @@ pub struct Dhat {
     pub bkacc: bool,
     /// The unit of sizes, where it isn't bytes.
     pub bu: Option<Text>,
-    /// The short form of that unit.
+    /// The plural of that unit.
     pub bsu: Option<Text>,
     /// The unit of blocks, where it isn't blocks.
     pub bksu: Option<Text>,
@@ -70,7 +70,7 @@ pub struct Dhat {
     pub tu: Text,
     /// That unit times a million.
     pub mtu: Text,
-    /// How short a lifetime is worth a remark, in units of time.
+    /// Up to which average lifetime blocks are short-lived, in units of time.
     pub tuth: Option<u64>,
     /// The command that was run.
     pub cmd: Text,

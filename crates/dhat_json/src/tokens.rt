@@ -1,4 +1,5 @@
-//! The members of an object, written one by one as JSON. In which order they stand is decided by the callers.
+//! The members of an object, written one by one as JSON. After `NoMemory` the writer is of no use: part of a member may
+//! stand in it. In which order they stand is decided by the callers.
 ghost use Rattle.std.specs.Prelude.{OnOk, All, IsUtf8, IfSome};
 ghost use Rattle.serde_json.specs.Data.{member, boolean, string};
 ghost use Rattle.dhat_json.specs.Adds.{Adds, AddsValue};
@@ -43,6 +44,7 @@ pub(crate) fn put_text(out: &mut Writer, key: Key, text: &Text) -> Result<(), No
     put_string(out, text)
 }
 
+/// Writes the member with the text, and nothing where there is none.
 pub(crate) fn put_optional_text(
     out: &mut Writer,
     key: Key,

@@ -35,7 +35,7 @@ impl Model for Lifetimes {
 }
 
 impl Lifetimes {
-    /// Lifetimes of no events, which hold stack 0. `NoMemory` says that memory is wanting.
+    /// Lifetimes of no events with one stack, stack 0, a trace's empty stack; or `NoMemory`.
     pub fn new(alloc: Global) -> Result<Lifetimes, NoMemory>
         ensures stands { IfOk result (λ lifetimes. StandsFor lifetimes []) }
         ensures stacks { IfOk result (λ lifetimes. length lifetimes.figures ≡ 1) }

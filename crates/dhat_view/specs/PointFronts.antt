@@ -1,5 +1,5 @@
 -- The frames of a profile's points as lists of texts. The list of a point is the shown texts of its
--- frames, from the first to the last, and its cost the figure of the key.
+-- frames, from the innermost outwards.
 use Rattle.std.specs.Prelude.{ℕ, List, [], map, slice_index_or}
 use Rattle.dhat_json.specs.declared.profile.Point.{Point}
 use Rattle.dhat_json.specs.declared.profile.Dhat.{Dhat}
@@ -9,7 +9,7 @@ use Rattle.dhat_json.specs.Shown.{shown}
 abbrev pub texts_at : List (List ℕ) → List ℕ → List (List ℕ)
 texts_at table frames = map (λ frame. slice_index_or table frame []) frames
 
--- for each point the texts of its frames, from the first to the last
+-- for each point the texts of its frames, from the innermost outwards
 abbrev pub lists_in : List (List ℕ) → List Point → List (List (List ℕ))
 lists_in table points = map (λ point. texts_at table point.fs) points
 

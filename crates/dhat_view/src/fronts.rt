@@ -11,7 +11,7 @@ use dhat_json::{Dhat, FrameList, Points};
 use hp_num::NoMemory;
 use std::alloc::Global;
 
-/// For each point of the profile the shown texts of its frames, from the first to the last, or `NoMemory`.
+/// For each point of the profile the shown texts of its frames, from the innermost outwards, or `NoMemory`.
 ///
 /// The profile must have fewer than 2^32 - 1 points, frames below the table's length, and the parts that it tells of, as
 /// every profile has that was read.

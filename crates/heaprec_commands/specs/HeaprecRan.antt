@@ -1,6 +1,5 @@
--- What a run of the program comes to: all that is promised of it, of what its store and its outputs
--- show before it and after it. All that is promised of a run: the answer that was delivered, and
--- what follows for each status.
+-- What a run of the program comes to, by what its store and its outputs show before it and after it:
+-- the answer that was delivered, and what follows for each status.
 use Rattle.std.specs.Prelude.{◌≡◌, ◌≢◌, ◌⊎◌, ℕ, List, [], Option, None, Some}
 use Rattle.std.specs.Io.KnownBytes.{append_known}
 use Rattle.hp_outside.specs.Folder.{Folder}

@@ -33,7 +33,7 @@ task_given None summary = Some (Records summary)
 task_given (Some trace) false = Some (Checks trace)
 task_given (Some trace) true = None
 
--- the trace that is read for it
+-- the trace that a task reads, where it checks one
 abbrev pub trace_of : Task → Option (List ℕ)
 trace_of (Records summary) = None
 trace_of (Checks trace) = Some trace

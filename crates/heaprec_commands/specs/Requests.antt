@@ -16,6 +16,7 @@ abbrev pub taken_asks : TakenWords → Option RecordAsked
 taken_asks words = record_by (value_in (rows_in words)) (flag_in (rows_in words))
     (files_in (rows_in words))
 
+-- a task as the definitions have it
 abbrev pub task_by : RecordTask → Task
 task_by (Record summary) = Records summary
 task_by (Check trace) = Checks trace.now

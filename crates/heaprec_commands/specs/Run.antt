@@ -1,8 +1,8 @@
--- What a run may come to, whatever the store and the threads do. What a run may come to. At status
--- 0 the output may be written of a job: one of as many scripts as are named, and where files are
--- told, what they say. Or it is the line for a trace, which where files are told is a recording of
--- what they say, of so many events. Or the trace is none, and the message names the line behind
--- which it breaks off.
+-- What a run may come to, whatever the store and the threads do. At status 0 the output is that of a
+-- job with as many scripts as are named and, where files are told, of the job that they say; or it is
+-- the line that calls a trace a recording of so many events, where files are told one of what they
+-- say. At status 1 a trace may be refused: the message names the first line with which no recording
+-- goes on, or the line after the last.
 use Rattle.std.specs.Prelude.{◌≡◌, ◌+◌, ◌⊎◌, ℕ, Bool, List, [], ◌++◌, length, Option, None, Some}
 use Rattle.hp_outside.specs.Folder.{Folder, file_of}
 use Rattle.hp_outside.specs.Taken.{WhereTold}
@@ -19,7 +19,8 @@ use Rattle.heaprec_commands.specs.RecordWords.{RecordAsked}
 use Rattle.heaprec_commands.specs.Answer.{count_asked, job_asked, summary_asked, task_asked, trace_asked, unchecked}
 use Rattle.heaprec_commands.specs.Texts.{heaprec_texts}
 
--- the output may be written of a job: one of as many scripts as are named, and where the files are told, what they say
+-- the output is one that `may_write` allows of a job: the job has as many scripts as are named, and where the files
+-- are told, it is what they say
 pub record IsRecording (may_write : Bool → Job → List ℕ → Type 0) (limit : ℕ)
     (files : Option Folder) (asking : Option RecordAsked) (output : List ℕ) : Type 0 where
   pub job : Job
@@ -42,7 +43,8 @@ pub record IsChecked (limit : ℕ) (files : Option Folder) (asking : Option Reco
   pub told : WhereTold files
       (λ folder. IsFileOf folder trace (job_asked limit folder asking) events)
 
--- a trace of a folder is no recording of a job, in no order: the message names the line, the first with which none goes on
+-- a trace of a folder is no recording of a job in any order: the message names the first line with which no recording
+-- goes on, or the line after the last
 pub record IsRefused (folder : Folder) (trace : List ℕ) (job : Job) (message : List ℕ)
     : Type 0 where
   pub bytes : List ℕ
@@ -51,7 +53,7 @@ pub record IsRefused (folder : Folder) (trace : List ℕ) (job : Job) (message :
   pub breaks : BreaksOff job bytes count
   pub message_is : message ≡ at_line heaprec_texts trace (count + 1) not_a_recording.text
 
--- a run with a trace to check came to its answer before the trace, or the trace is refused
+-- a run with a trace to check came to its answer before the trace was judged, or the trace is refused
 abbrev pub IsFaulty : Bounds → ℕ → Option RecordAsked → List ℕ → Shown → Shown → Answer → Type 0
 IsFaulty bounds limit asking trace before now answer =
     WordsRan heaprec_texts bounds before.files (task_asked limit [] (unchecked asking))
@@ -71,7 +73,7 @@ abbrev pub IsDone : (may_write : Bool → Job → List ℕ → Type 0) → ℕ �
 IsDone may_write limit files asking output = IsDoneBy may_write limit files asking output
     (trace_asked asking)
 
--- the words were run with some text. Where that is done, what was written early and what is yet to be delivered are together the
+-- the words were run, with some text as the recording. Where that is done, what was written early and what is yet to be delivered are together the
 -- output of a run that is done; and where a trace was to be checked, status 1 tells of a fault before it, or refuses it
 pub record WordsRecord (may_write : Bool → Job → List ℕ → Type 0) (bounds : Bounds) (limit : ℕ)
     (asking : Option RecordAsked) (before now : Shown) (old new : Taken) (answer : Answer) : Type

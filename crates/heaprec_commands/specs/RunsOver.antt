@@ -27,7 +27,7 @@ abbrev pub Checks : {S O Z : Type 0} → store.Ghosts S → sink.Ghosts O → Ru
 Checks s o context name scripts before now old new result = Runs s o context (name ∷ [])
     (one_file name (check_report scripts)) before now old new result
 
--- what was asked for is done, or words that aren't taken are refused
+-- what was asked for is done or halts by its cause, or words that aren't taken are refused
 abbrev pub RunsAsked : {S O Z : Type 0} → store.Ghosts S → sink.Ghosts O → RunContext
     → Option RecordAsked → S → S → O → O → Result (Vec ℕ Z) Halt → Type 0
 RunsAsked s o context asking before now old new result =

@@ -20,7 +20,9 @@ use std::alloc::Global;
 use std::sync::Wait;
 use std::thread::Threads;
 
-/// Runs what the words ask for. Nothing is written, and no words at all take no memory.
+/// Runs what the words ask for, and answers the output that is yet to be written, or why the run ends without it. No bytes
+/// are written here, though the clause allows some. Where there are no words, no memory is taken, and the halt is that of
+/// the usage text.
 pub fn run_words<R: Threads + Wait + Sync, S: Store, O: Sink, G: Gate + Sync>(
     rt: &R,
     context: &RunContext,

@@ -30,7 +30,7 @@ impl<T> Items<T> {
         }
     }
 
-    /// Appends one item. On `NoMemory` the list is as before.
+    /// Appends one item. On `NoMemory` the list is as before, and the item is dropped.
     pub fn push(&mut self, item: T) -> Result<(), NoMemory>
     where
         T: Drop,

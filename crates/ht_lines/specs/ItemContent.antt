@@ -50,7 +50,7 @@ HasTail version rest (Module name start ranges tail) = IfSome (module_name versi
 HasTail version rest (Instr ip module_string count tail) = tail.now ≡ after_field (after_field rest)
 HasTail version rest _ = Unit {0}
 
--- the result is what is read, up to where the texts lie
+-- the result is an item that says what is read, or the fault that is read
 abbrev pub Gives : Result Item Malformed → Result Content Malformed → Type 0
 Gives (Ok item) read = read ≡ Ok (content item)
 Gives (Err fault) read = read ≡ Err fault

@@ -1,6 +1,6 @@
 //! The two kinds of lines whose items have a tail: modules with their ranges, and instructions with their frames.
 //!
-//! Each call is given what follows the kind. That all numbers of a tail are numbers is tested here.
+//! Each call is given what follows the kind. That all fields of a tail are numbers is tested here.
 ghost use Rattle.std.specs.Prelude.{◌≡◌, ℕ, ◌^◌, ◌<◌, ◌≤◌, List, length, Some, IfOk};
 ghost use Rattle.ht_lines.specs.Fields.{fields, numbers};
 ghost use Rattle.ht_lines.specs.ModuleName.{module_name};
@@ -11,7 +11,8 @@ use crate::fields::{count_fields, next_number};
 use crate::item::{Item, Malformed};
 use crate::text::module_name;
 
-/// A line of an instruction: its ip, the string of its module, and its frames.
+/// Reads a line of an instruction: its ip, the string of its module, and its frames. `MissingField` comes at 0, 1, 4, 7 and
+/// so on fields, and then `BadField` where one is no number.
 #[tactic(auto, unfolding(crate::specs::Reading::instruction_of), using(crate::proofs::FieldLemmas::length_numbers))]
 pub fn read_instruction(rest: &[u8]) -> Result<Item<'_>, Malformed>
     requires { length rest.now < 2 ^ 32 }

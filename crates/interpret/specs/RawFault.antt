@@ -1,6 +1,6 @@
--- The fault of a line of a raw trace after earlier lines: the first that holds in the order of the
--- tests here. The fault of a raw line after earlier lines: the want of a version line, the
--- grammar's, a second version line, an unknown parent or node, a stack too deep, a table too full.
+-- The fault of a line of a raw trace after earlier lines, the first of these that holds: the want of a
+-- version line, the grammar's, a second version line, an unknown parent or node, a stack too deep, a
+-- table too full.
 use Rattle.std.specs.Prelude.{ℕ, ◌+◌, ◌||◌, if◌then◌else◌, List, length, nat_lt, Option, Some, None, is_some, unwrap_or}
 use Rattle.std.specs.Prelude.{Result, Ok, Err}
 use Rattle.std.specs.Option.{option_or}

@@ -30,7 +30,7 @@ said_by line = record {
   texts = fields line.texts.now;
 }
 
--- the parts are those of what is said
+-- the parts of a line say this symbol, or there is none of both
 abbrev pub Says : Option SymbolLine → Option Symbol → Type 0
 Says None said = said ≡ None
 Says (Some line) said = said ≡ Some (said_by line)

@@ -1,7 +1,7 @@
 -- The fields of a line of a symbol table are the pieces between its tabs. A line says a symbol
 -- where it has a module, a start and a size in hexadecimal digits, and then a function alone, or a
--- function, a file and a decimal number for each frame; no text is empty, the size isn't 0, and the
--- range ends at 2^64 - 1 or before.
+-- function, a file and a decimal number for each frame; no text is empty, the size isn't 0, and
+-- start and size are together below 2^64.
 use Rattle.std.specs.Prelude.{ℕ, ◌+◌, ◌^◌, Bool, true, false, ◌==◌, ◌&&◌, if◌then◌else◌, List, [], ◌∷◌, length, nat_lt}
 use Rattle.std.specs.Prelude.{Option, None, Some, is_some}
 use Rattle.std.specs.List.{slice_split}
@@ -41,7 +41,7 @@ are_texts [] = false
 are_texts (function ∷ []) = is_text function
 are_texts (function ∷ more) = are_frames (function ∷ more)
 
--- the symbol with this start and size, where it has a range that ends at 2^64 - 1 or before
+-- the symbol with this start and size, where its parts may stand so: start and size are together below 2^64
 abbrev pub symbol_from : List ℕ → Option ℕ → Option ℕ → List (List ℕ) → Option Symbol
 symbol_from name None size texts = None
 symbol_from name (Some start) None texts = None

@@ -8,7 +8,7 @@ ghost use Rattle.interpret.specs.SymbolEntries.{Says, following};
 use hp_num::{parse_dec, parse_hex};
 
 /// What a line says: the module, the offset where the range begins and the one after its last, and the texts with the tabs
-/// between them. They are parts of the line.
+/// between them. Name and texts are parts of the line.
 #[derive(Clone, Copy)]
 pub struct SymbolLine<'a> {
     pub name: &'a [u8],
@@ -35,7 +35,7 @@ fn first_tab(text: &[u8]) -> Option<usize>
     text.iter().position(|byte| *byte == b'\t')
 }
 
-/// The symbol of a line that is neither empty nor a comment: `None` exactly where the line is no line of a symbol table.
+/// The symbol that the line says: `None` exactly where it says none. Comments aren't told from other lines here.
 pub fn read_symbol(line: &[u8]) -> Option<SymbolLine<'_>>
     ensures said { Says result (symbol_of (fields line.now)) }
     ensures some { IfSome result (λ said. said.start < said.end) }

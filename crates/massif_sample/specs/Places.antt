@@ -1,5 +1,5 @@
--- Places in a list of events: place k is behind the k-th allocation or free. Place k is behind the
--- k-th allocation or free, counted or not: clock values behind it don't belong to it.
+-- Places in a list of events: place k is behind the k-th allocation or free, counted or not; clock
+-- values behind it don't belong to it.
 use Rattle.std.specs.Prelude.{ℕ, zero, suc, Bool, List, [], ◌∷◌}
 use Rattle.live_ledger.specs.declared.event.Event.{Event}
 use Rattle.live_ledger.specs.declared.event.Event.TheVariants.{Alloc, Free, Tick}

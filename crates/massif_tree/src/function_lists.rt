@@ -1,5 +1,5 @@
 //! The frames that allocation functions leave of a stack, and which stacks are ignored.
-//! The lists of names are asked as they come, and what a stack costs is no part of it.
+//! The lists of names are tests of the callers (`FrameTest`), and what a stack costs is no part of it.
 ghost use Rattle.std.specs.Prelude.{◌≤◌, All, length, IfOk};
 ghost use Rattle.cost_tree.specs.FrameTexts.{says};
 ghost use Rattle.ht_trace.specs.IsFrame.{IsFrame};
@@ -56,7 +56,7 @@ fn is_whole_ignored<A: Fn(&[u8]) -> bool, I: Fn(&[u8]) -> bool>(
     }
 }
 
-/// How many frames from the first on have a function of the list.
+/// How many frames the longest front has whose functions are all in the list that the test stands for.
 pub(crate) fn listed_front<F: Fn(&[u8]) -> bool>(
     tables: &Tables,
     frames: &[FrameAt],

@@ -11,7 +11,9 @@ use command_frame::{Halt, PairNames, RunContext, run_one_file, run_pair};
 use hp_outside::{Sink, Store};
 use interpret::{Interpreter, Symbols};
 
-/// Reads the table of symbols, where one is named, and then the named trace, whose interpreted lines it writes while it reads.
+/// Reads the table of symbols, where one is named, and then the named raw trace, whose interpreted lines it
+/// writes while it reads, but for the rest that is answered. At a halt, other than for a failed write, the lines before it
+/// have been written.
 pub fn run_interpret<S: Store, O: Sink>(
     context: &RunContext,
     symbols: Option<&str>,
