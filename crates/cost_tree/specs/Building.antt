@@ -97,11 +97,3 @@ GrowsBy shape end list cost depth old new =
 pub record StaysBuilt (shape : List Edge) (old new : Branches) : Type 0 where
   pub built : IsBuilt shape new
   pub weight : sum_by weight new.nodes.items ≡ sum_by weight old.nodes.items
-
--- a list that ends at a node and costs something is added: the tree is built, its figures are up to
--- three times the cost more, and it is that of the stacks before and this one
-pub record AddsList (shape : List Edge) (end list cost depth : ℕ) (old new : Branches) : Type
-    0 where
-  pub built : IsBuilt shape new
-  pub weight : sum_by weight new.nodes.items ≤ sum_by weight old.nodes.items + 3 * cost
-  pub grown : GrowsBy shape end list cost depth old new

@@ -1,7 +1,7 @@
 //! Which names are meant, by a closure that is kept.
 ghost use Rattle.std.specs.Prelude.{◌≡◌, ℕ, List};
 ghost use Rattle.std.specs.Fn.{FnReturnsAt};
-ghost use Rattle.cost_tree.specs.FrameTexts.{AreTexts, TellsOf, TellsSame, says};
+ghost use Rattle.cost_tree.specs.FrameTexts.{StatesNames, TellsOf, TellsSame, says};
 
 /// A test of names, as those of functions: it answers true exactly for the names of a list.
 #[derive(Drop)]
@@ -13,7 +13,7 @@ impl<F: Fn(&[u8]) -> bool> FrameTest<F> {
     /// Keeps the closure, which may be called on every name and answers true exactly for the names of some list.
     pub fn new(test: F) -> FrameTest<F>
         requires callable { F.IsAlwaysCallable test }
-        requires stated { (texts : List (List ℕ)) × AreTexts (FnReturnsAt F.Fn test) texts }
+        requires stated { (texts : List (List ℕ)) × StatesNames (FnReturnsAt F.Fn test) texts }
         ensures closure { result.test ≡ test }
         ensures callable { F.IsAlwaysCallable result.test }
         ensures stated { TellsSame (FnReturnsAt F.Fn test) (FnReturnsAt F.Fn result.test) }

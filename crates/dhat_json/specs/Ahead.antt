@@ -34,5 +34,5 @@ Passes result ahead now = MatchResult result (λ _. behind ahead ≡ Some now)
     (λ _. behind ahead ≡ None)
 
 -- nothing of the kind stands there, or memory was wanting
-abbrev pub IsNone : {A : Type 0} → DhatFault → Option (A × List Token) → Type 0
-IsNone fault ahead = UnlessNoMemory fault ((fault ≡ NotJson) × (ahead ≡ None))
+abbrev pub TellsNone : {A : Type 0} → DhatFault → Option (A × List Token) → Type 0
+TellsNone fault ahead = UnlessNoMemory fault ((fault ≡ NotJson) × (ahead ≡ None))

@@ -1,6 +1,6 @@
 //! The points of a list, read as its items come. An item is kept no longer than it takes to read its point.
 ghost use Rattle.std.specs.Prelude.{◌≡◌, [], ◌<◌, Ok, Some, IfErr, IsTrue, OnOk, length};
-ghost use Rattle.dhat_json.specs.Ahead.{IsNone, items_ahead, value_ahead};
+ghost use Rattle.dhat_json.specs.Ahead.{TellsNone, items_ahead, value_ahead};
 ghost use Rattle.dhat_json.specs.DataOf.{data_of};
 ghost use Rattle.dhat_json.specs.Gathered.{AreSameIn, GainsPoint, GathersNext, HasGathered, Takes, TakesItems};
 
@@ -52,7 +52,7 @@ impl Gathered {
         ensures shape { self.new.shape ≡ self.old.shape }
         ensures shorter { OnOk result (length reader.new < length reader.old) }
         ensures fault { IfErr result
-            (λ fault. IsNone fault (items_ahead ITEM_DEPTH reader.old)) }
+            (λ fault. TellsNone fault (items_ahead ITEM_DEPTH reader.old)) }
     {
         'items: while !reader.take_end_array() {
             self.take_next(alloc, reader)?;
@@ -64,7 +64,7 @@ impl Gathered {
         ensures taken { OnOk result (Takes self.old self.new reader.old reader.new) }
         ensures shape { self.new.shape ≡ self.old.shape }
         ensures shorter { OnOk result (length reader.new < length reader.old) }
-        ensures fault { IfErr result (λ fault. IsNone fault (value_ahead ITEM_DEPTH reader.old)) }
+        ensures fault { IfErr result (λ fault. TellsNone fault (value_ahead ITEM_DEPTH reader.old)) }
     {
         let item = next_value(alloc, reader, ITEM_DEPTH)?;
         self.take(alloc, &item);

@@ -3,7 +3,7 @@
 ghost use Rattle.std.specs.Prelude.{◌≡◌, ◌∷◌, [], ◌++◌, ◌<◌, codes, Err, IfErr, IfOk, OnOk, Some, IfSome, length};
 ghost use Rattle.serde_json.specs.Data.{no_members};
 ghost use Rattle.serde_json.specs.Read.{read};
-ghost use Rattle.dhat_json.specs.Ahead.{IsNone, members_ahead, value_ahead};
+ghost use Rattle.dhat_json.specs.Ahead.{TellsNone, members_ahead, value_ahead};
 ghost use Rattle.dhat_json.specs.Document.{dhat_in_some};
 ghost use Rattle.dhat_json.specs.Reads.{UnlessNoMemory};
 ghost use Rattle.dhat_json.specs.Survey.{HasMet, HasSurveyed, Meets, MeetsMembers};
@@ -90,7 +90,7 @@ impl<'a> Survey<'a> {
         ensures met { OnOk result (MeetsMembers self.old self.new reader.old reader.new) }
         ensures given { self.new.given ≡ self.old.given }
         ensures fault { IfErr result
-            (λ fault. IsNone fault (members_ahead MEMBER_DEPTH reader.old)) }
+            (λ fault. TellsNone fault (members_ahead MEMBER_DEPTH reader.old)) }
     {
         'members: while let Some(name) = reader.next_key()? {
             self.take(alloc, reader, name)?;
@@ -109,7 +109,7 @@ impl<'a> Survey<'a> {
         ensures given { self.new.given ≡ self.old.given }
         ensures shorter { OnOk result (length reader.new < length reader.old) }
         ensures fault { IfErr result
-            (λ fault. IsNone fault (value_ahead MEMBER_DEPTH reader.old)) }
+            (λ fault. TellsNone fault (value_ahead MEMBER_DEPTH reader.old)) }
     {
         if name == "ftbl" {
             let table = next_value(alloc, reader, MEMBER_DEPTH)?;
@@ -137,7 +137,7 @@ impl<'a> Survey<'a> {
         ensures given { self.new.given ≡ self.old.given }
         ensures shorter { OnOk result (length reader.new < length reader.old) }
         ensures fault { IfErr result
-            (λ fault. IsNone fault (value_ahead MEMBER_DEPTH reader.old)) }
+            (λ fault. TellsNone fault (value_ahead MEMBER_DEPTH reader.old)) }
     {
         self.gathered = Gathered::new(alloc, shape_of(self.given, self.bklt, self.bkacc));
         let token = reader.next().ok_or(Invalid)?;

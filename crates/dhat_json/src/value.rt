@@ -3,7 +3,7 @@
 ghost use Rattle.std.specs.Prelude.{◌≡◌, ◌<◌, None, Some, length, map, option_map, is_some, IfOk, IfErr, OnOk};
 ghost use Rattle.json.specs.Value.{items_view, members_view, value_view};
 ghost use Rattle.serde_json.specs.Find.{as_bool, as_object, as_str, get};
-ghost use Rattle.dhat_json.specs.Ahead.{IsNone, value_ahead};
+ghost use Rattle.dhat_json.specs.Ahead.{TellsNone, value_ahead};
 ghost use Rattle.dhat_json.specs.DataOf.{data_of, has_data, items_have_data, members_have_data};
 ghost use Rattle.dhat_json.specs.KeyName.{key_name};
 ghost use Rattle.dhat_json.specs.Kinds.{as_list, as_whole};
@@ -22,7 +22,7 @@ pub(crate) fn next_value<'a>(
 ) -> Result<Value<'a>, DhatFault>
     ensures read { IfOk result (λ v. value_ahead depth reader.old ≡ Some (data_of v, reader.new)) }
     ensures shorter { OnOk result (length reader.new < length reader.old) }
-    ensures fault { IfErr result (λ fault. IsNone fault (value_ahead depth reader.old)) }
+    ensures fault { IfErr result (λ fault. TellsNone fault (value_ahead depth reader.old)) }
 {
     let value = match Value::read(alloc, reader, depth) {
         Ok(value) => value,

@@ -12,7 +12,7 @@ use Rattle.command_frame.specs.WordsRan.{WordsRan}
 use Rattle.heaprec_commands.specs.Answer.{HaveNoFault, job_asked, names_asked, rec_answer, task_asked, trace_asked}
 use Rattle.heaprec_commands.specs.Recorded.{IsRecorded}
 use Rattle.heaprec_commands.specs.RecordWords.{RecordAsked, record_asked}
-use Rattle.heaprec_commands.specs.Run.{IsChecked, IsDone, IsRecording, IsRefused}
+use Rattle.heaprec_commands.specs.Run.{IsChecked, IsDone, IsRecordingOutput, IsRefused}
 use Rattle.heaprec_commands.specs.Texts.{heaprec_texts}
 
 -- whatever failed: one answer that the words and the files allow was delivered. Where that answer is done, its output is a
@@ -38,7 +38,7 @@ pub record HeaprecRan (bounds : Bounds) (limit : ℕ) (words : List (List ℕ)) 
   -- tells its files, the scripts are what they say
   pub recorded : trace_asked (record_asked words) ≡ None → status ≡ 0
       → (output : List ℕ) × ((now.out.written ≡ append_known before.out.written output)
-      × IsRecording IsRecorded limit before.store.files (record_asked words) output)
+      × IsRecordingOutput IsRecorded limit before.store.files (record_asked words) output)
   -- with one, at status 0: where the store tells its files, the order that the trace's bytes spell is an interleaving of the scripts,
   -- the bytes are the trace of the scripts in this order, and what was written is the line with the number of its events
   pub checked : (trace : List ℕ) → trace_asked (record_asked words) ≡ Some trace → status ≡ 0

@@ -21,7 +21,7 @@ use Rattle.heaprec_commands.specs.Texts.{heaprec_texts}
 
 -- the output is one that `may_write` allows of a job: the job has as many scripts as are named, and where the files
 -- are told, it is what they say
-pub record IsRecording (may_write : Bool → Job → List ℕ → Type 0) (limit : ℕ)
+pub record IsRecordingOutput (may_write : Bool → Job → List ℕ → Type 0) (limit : ℕ)
     (files : Option Folder) (asking : Option RecordAsked) (output : List ℕ) : Type 0 where
   pub job : Job
   pub may : may_write (summary_asked asking) job output
@@ -64,7 +64,7 @@ IsFaulty bounds limit asking trace before now answer =
 -- what is said by the output of a run that is done: it is a recording, or says so of the trace that is checked
 abbrev pub IsDoneBy : (may_write : Bool → Job → List ℕ → Type 0) → ℕ → Option Folder
     → Option RecordAsked → List ℕ → Option (List ℕ) → Type 0
-IsDoneBy may_write limit files asking output None = IsRecording may_write limit files asking output
+IsDoneBy may_write limit files asking output None = IsRecordingOutput may_write limit files asking output
 IsDoneBy may_write limit files asking output (Some trace) = IsChecked limit files asking trace
     output
 

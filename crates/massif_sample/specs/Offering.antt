@@ -4,7 +4,7 @@ use Rattle.std.specs.Prelude.{◌≡◌, ◌≢◌, ℕ, ◌+◌, ◌<◌, Bool,
 use Rattle.std.specs.Borrow.{Bor}
 use Rattle.std.specs.Fn.{FnReturnsAt, Shared}
 use Rattle.cost_history.specs.HistoryState.{AreSaid}
-use Rattle.cost_tree.specs.FrameTexts.{AreTexts}
+use Rattle.cost_tree.specs.FrameTexts.{StatesNames}
 use Rattle.ht_trace.specs.TableState.{TableState}
 use Rattle.live_ledger.specs.declared.event.Event.{Event}
 use Rattle.live_ledger.specs.Events.{event_count}
@@ -52,7 +52,7 @@ abbrev pub MakesOffer : {A : Type 0} → Shared A (Bor (List ℕ) × Unit {0}) B
     → SamplesState → SamplesState → Type 0
 MakesOffer g stacks answers as_peak old new =
     (names : FunctionNames) (events : List Event) (made : List Offer)
-    → AreTexts (FnReturnsAt g stacks.skipped.now.test) names.alloc_fns
+    → StatesNames (FnReturnsAt g stacks.skipped.now.test) names.alloc_fns
     → AreSaid answers (length stacks.tables.now.nodes + 1) (cost_at (ignores stacks.tables.now names) events
     (event_count events))
     → IsSampling old names stacks.tables.now events made
@@ -64,7 +64,7 @@ abbrev pub OffersLive : {A : Type 0} → Shared A (Bor (List ℕ) × Unit {0}) B
     → (FunctionNames → List Event → List Offer) → SamplesState → SamplesState → Type 0
 OffersLive g stacks ledger more old new =
     (names : FunctionNames) (events : List Event) (made : List Offer)
-    → AreTexts (FnReturnsAt g stacks.skipped.now.test) names.alloc_fns
+    → StatesNames (FnReturnsAt g stacks.skipped.now.test) names.alloc_fns
     → AreJudged names stacks.tables.now stacks.judged.now
     → ledger_spec.StandsFor ledger events
     → IsSampling old names stacks.tables.now events made

@@ -7,7 +7,7 @@ use Rattle.cost_history.specs.Changes.{cost_at as cost_told}
 use Rattle.cost_history.specs.Marks.{candidates}
 use Rattle.cost_history.specs.HistoryState.{AreSaid, HistoryState}
 use Rattle.cost_tree.specs.declared.frame_test.FrameTest.{FrameTest}
-use Rattle.cost_tree.specs.FrameTexts.{AreTexts}
+use Rattle.cost_tree.specs.FrameTexts.{StatesNames}
 use Rattle.ht_trace.specs.TableState.{TableState}
 use Rattle.live_ledger.specs.declared.event.Event.{Event}
 use Rattle.live_ledger.specs.Events.{event_count}
@@ -42,7 +42,7 @@ StandStill old new = (names : FunctionNames) (tables : TableState) (events : Lis
 abbrev pub StandStillFor : {A : Type 0} → Shared A (Bor (List ℕ) × Unit {0}) Bool → FrameTest A → TableState
     → SamplesState → SamplesState → Type 0
 StandStillFor g alloc_fns tables old new = (names : FunctionNames) (events : List Event) (made : List Offer)
-    → AreTexts (FnReturnsAt g alloc_fns.test) names.alloc_fns
+    → StatesNames (FnReturnsAt g alloc_fns.test) names.alloc_fns
     → IsSampling old names tables events made → IsSampling new names tables events made
 
 -- texts are known of no more stacks than the tables have

@@ -4,7 +4,7 @@ use Rattle.std.specs.Prelude.{◌≡◌, ◌≢◌, ◌⊎◌, ℕ, ◌+◌, ◌
 use Rattle.std.specs.Prelude.{IfErr, OnErr, OnOk}
 use Rattle.std.specs.Borrow.{Bor}
 use Rattle.std.specs.Fn.{FnReturnsAt, Shared}
-use Rattle.cost_tree.specs.FrameTexts.{AreTexts}
+use Rattle.cost_tree.specs.FrameTexts.{StatesNames}
 use Rattle.ht_trace.specs.TableState.{TableState}
 use Rattle.live_ledger.specs.declared.event.Event.{Event}
 use Rattle.live_ledger.specs.Faults.{fault_at}
@@ -48,7 +48,7 @@ abbrev pub TakesEvent : {A : Type 0} → Shared A (Bor (List ℕ) × Unit {0}) B
     → SamplesState → SamplesState → Type 0
 TakesEvent g stacks ledger event old new =
     (names : FunctionNames) (events : List Event)
-    → AreTexts (FnReturnsAt g stacks.skipped.now.test) names.alloc_fns
+    → StatesNames (FnReturnsAt g stacks.skipped.now.test) names.alloc_fns
     → StandsFor stacks.judged.now old names stacks.tables.now events
     → ledger_spec.StandsFor ledger events
     → StandsFor stacks.judged.now new names stacks.tables.now (events ++ event ∷ [])
@@ -67,7 +67,7 @@ abbrev pub CallsForTreeAt : {A : Type 0} → Shared A (Bor (List ℕ) × Unit {0
     → SamplesState → Type 0
 CallsForTreeAt g stacks ledger event samples =
     (names : FunctionNames) (events : List Event)
-    → AreTexts (FnReturnsAt g stacks.skipped.now.test) names.alloc_fns
+    → StatesNames (FnReturnsAt g stacks.skipped.now.test) names.alloc_fns
     → StandsFor stacks.judged.now samples names stacks.tables.now events
     → ledger_spec.StandsFor ledger events
     → IsDue samples.options (ignores stacks.tables.now names) events event
@@ -96,7 +96,7 @@ abbrev pub CountsEvent : {A : Type 0} → Shared A (Bor (List ℕ) × Unit {0}) 
     → Running → SamplesState → SamplesState → Type 0
 CountsEvent g stacks ledger event next old new =
     (names : FunctionNames) (events : List Event) (made : List Offer)
-    → AreTexts (FnReturnsAt g stacks.skipped.now.test) names.alloc_fns
+    → StatesNames (FnReturnsAt g stacks.skipped.now.test) names.alloc_fns
     → AreJudged names stacks.tables.now stacks.judged.now
     → ledger_spec.StandsFor ledger events
     → IsSampling old names stacks.tables.now events made

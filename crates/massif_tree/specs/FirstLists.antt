@@ -4,7 +4,7 @@ use Rattle.std.specs.List.{range_with_len}
 use Rattle.ht_trace.specs.TableState.{TableState}
 use Rattle.massif_tree.specs.FunctionLists.{trimmed_texts, trimmed_before}
 use Rattle.cost_tree.specs.Costed.{costed}
-use Rattle.cost_tree.specs.FrameTexts.{AreTexts}
+use Rattle.cost_tree.specs.FrameTexts.{StatesNames}
 use Rattle.massif_file.specs.TreeLine.{TreeLine}
 use Rattle.massif_tree.specs.declared.options.TreeOptions.{TreeOptions}
 use Rattle.massif_tree.specs.MassifTree.{massif_tree}
@@ -26,7 +26,7 @@ AreFirstLists tables alloc_fns options lists =
 -- lists that are such are such still, whatever names of allocation functions a closure with these answers states
 abbrev pub KeepsFirstLists : (List ℕ → Bool → Type 0) → TableState → TreeOptions
     → List (List (List ℕ)) → List (List (List ℕ)) → Type 0
-KeepsFirstLists answers tables options old new = (names : List (List ℕ)) → AreTexts answers names
+KeepsFirstLists answers tables options old new = (names : List (List ℕ)) → StatesNames answers names
     → AreFirstLists tables names options old → AreFirstLists tables names options new
 
 -- the lines are those of the first stacks as they are trimmed, of whichever tables and names the lists are such

@@ -16,7 +16,7 @@ use Rattle.ht_trace.specs.TableState.{TableState}
 use Rattle.std.specs.Borrow.{Bor}
 use Rattle.std.specs.Fn.{Shared}
 use Rattle.cost_tree.specs.declared.frame_test.FrameTest.{FrameTest}
-use Rattle.cost_tree.specs.FrameTexts.{AreTexts, says}
+use Rattle.cost_tree.specs.FrameTexts.{StatesNames, says}
 
 -- whether the frame has a function whose name is in the list; a frame without a function is in no list
 abbrev pub is_listed : TableState → List (List ℕ) → FrameAt → Bool
@@ -53,12 +53,12 @@ trimmed_before tables alloc_fns count = map (trimmed_texts tables alloc_fns)
 
 -- a closure's answer on a frame is whether its list has the frame's function
 abbrev pub TellsListed : (List ℕ → Bool → Type 0) → TableState → FrameAt → Bool → Type 0
-TellsListed answers tables at answer = (texts : List (List ℕ)) → AreTexts answers texts
+TellsListed answers tables at answer = (texts : List (List ℕ)) → StatesNames answers texts
     → answer ≡ is_listed tables texts at
 
 -- so many frames from the first on have functions of the list
 abbrev pub CountsListed : (List ℕ → Bool → Type 0) → TableState → List FrameAt → ℕ → Type 0
-CountsListed answers tables frames count = (texts : List (List ℕ)) → AreTexts answers texts
+CountsListed answers tables frames count = (texts : List (List ℕ)) → StatesNames answers texts
     → count ≡ prefix_len (is_listed tables texts) frames
 
 -- by two tests the answer is whether stack n is ignored, whichever names they state
@@ -66,5 +66,5 @@ abbrev pub IsIgnoredBy : {A I : Type 0} → Shared A (Bor (List ℕ) × Unit {0}
     → Shared I (Bor (List ℕ) × Unit {0}) Bool → FrameTest A → FrameTest I → TableState → ℕ → Bool
     → Type 0
 IsIgnoredBy a i alloc_fns ignore_fns tables n answer = (alloc_names ignore_names : List (List ℕ))
-    → AreTexts (says a alloc_fns) alloc_names → AreTexts (says i ignore_fns) ignore_names
+    → StatesNames (says a alloc_fns) alloc_names → StatesNames (says i ignore_fns) ignore_names
     → answer ≡ is_ignored tables alloc_names ignore_names n

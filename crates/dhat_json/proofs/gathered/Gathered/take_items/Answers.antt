@@ -3,7 +3,7 @@ use Rattle.std.proofs.lemmas.Result.{err_from_is_err_and}
 use Rattle.json.specs.Json.{after_end_array, items, parse_map, value}
 use Rattle.serde_json.specs.Data.{no_items}
 use Rattle.serde_json.specs.Read.{of_items, converted}
-use Rattle.dhat_json.specs.Ahead.{IsNone, items_ahead, value_ahead}
+use Rattle.dhat_json.specs.Ahead.{TellsNone, items_ahead, value_ahead}
 use Rattle.dhat_json.specs.Gathered.{HasGathered, Takes}
 use Rattle.dhat_json.proofs.AheadTurns.{item_read, item_refused, items_over}
 use Rattle.dhat_json.proofs.Findings.{fault_follows}
@@ -49,7 +49,7 @@ returns-in_err-take_next-clause-fault c =
     let going : (after_end_array l.reader ≡ None) × (c.take_end_array.new.self ≡ l.reader) = grind arith in
     let q = err_from_is_err_and c.from_residual.result c.from_residual.ensures.1 in
     let fault = c.in_err-take_next.field-0.0 in
-    let none = subst (λ ts. IsNone fault (value_ahead 125 ts)) going.1 c.in_err-take_next.ensures.fault in
+    let none = subst (λ ts. TellsNone fault (value_ahead 125 ts)) going.1 c.in_err-take_next.ensures.fault in
     rw (q.1, q.2)
     (fault_follows _ _ fault none
     (λ e. (
