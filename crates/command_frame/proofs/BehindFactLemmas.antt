@@ -54,7 +54,8 @@ module _ (texts : Texts) (bounds : Bounds) (files : Option Folder) (last name wa
         current = λ e some. current_behind names (rest.current (sym status ∙ e)) rest.unread;
         ended = λ e some. ended_behind names (rest.ended (sym status ∙ e)) rest.unread;
         not_read =
-            λ e. not_read_behind texts files name names before mid now given answer (rest.not_read (sym status ∙ e)) opens
+            λ e. not_read_behind texts files name names before mid now given answer
+            (rest.not_read (sym status ∙ e)) opens
             faults message;
         sound =
             λ three four five. rest.sound (λ e. three (status ∙ e)) (λ e. four (status ∙ e)) (λ e. five (status ∙ e))

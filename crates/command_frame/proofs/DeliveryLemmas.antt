@@ -12,7 +12,8 @@ pub fronts_later : {write_failed : List ℕ} {answer : Answer} {out_rose out_ris
     → (out_rose → out_rises) → (err_rose → err_rises) → out_last ≡ out_new → err_last ≡ err_new
     → GainsFronts write_failed answer out_rose err_rose out_old out_new err_old err_new
     → GainsFronts write_failed answer out_rises err_rises out_old out_last err_old err_last
-fronts_later {write_failed} {answer} {out_rose} {out_rises} {err_rose} {err_rises} {out_old} {out_new} {out_last} {err_old} {err_new} {err_last}
+fronts_later {write_failed} {answer} {out_rose} {out_rises} {err_rose} {err_rises} {out_old} {out_new} {out_last}
+    {err_old} {err_new} {err_last}
     out_later err_later out_same err_same fronts = record {
       output = (fronts.output.0, out_same ∙ fronts.output.1);
       message = elim fronts.message [

@@ -58,7 +58,8 @@ open_where bounds (Some bytes) opening.Failed result is tells = tt
 
 open_calls : (files : Option Folder) (before now : Moment) (fault : OpenFault) → Opened before now false
     → (fault ≡ opening.Absent → files ≡ None → Faulted before.faults now.faults)
-    → (fault ≡ opening.Failed → Faulted before.faults now.faults) → DocumentCalls files before now (end_of_document fault)
+    → (fault ≡ opening.Failed → Faulted before.faults now.faults) → DocumentCalls files before now
+    (end_of_document fault)
 open_calls files before now opening.Absent opened absent failed = (opened, absent refl)
 open_calls files before now opening.Failed opened absent failed = (opened, failed refl)
 

@@ -363,7 +363,8 @@ read_more bounds report has new_has reader next start left new_left old now new 
           (Ok (Some span)) =
           subst (λ r. GivesLine reader.passed told.rest next.passed (prepend_known next.kept new_left) next.line r) is
           (gives told.rest told.rest_is) in
-          told_more bounds report reader next bytes before.taken left new_left next.line told (some_left told.rest answer.0)
+          told_more bounds report reader next bytes before.taken left new_left next.line told
+          (some_left told.rest answer.0)
           answer.1 answer.2
           given.0 given.1 given.2 given.3 step (good before.taken before.has_taken);
       gained =

@@ -64,7 +64,8 @@ pub passed_on_all : {old now new : Option (List ℕ)} {kept_back bytes : List �
 passed_on_all {old} {now} {new} {kept_back} {bytes} before passed_on = record {
   early = before.early ++ kept_back;
   written =
-      passed_on ∙ (ap (λ known. append_known known kept_back) before.written ∙ append_further old before.early kept_back);
+      passed_on ∙ (ap (λ known. append_known known kept_back) before.written
+      ∙ append_further old before.early kept_back);
   all = append-nil (before.early ++ kept_back) ∙ before.all;
 }
 

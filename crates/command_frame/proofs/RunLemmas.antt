@@ -126,7 +126,8 @@ ran_on_to texts bounds files last name names report next before mid now old midd
               subst (λ e. FileRead bounds files name report before mid e) is read,
               (
                 after rest.0 answer,
-                ap (λ bytes. record answer { output = bytes }) (append_assoc (written report taken) rest.0 answer.output),
+                ap (λ bytes. record answer { output = bytes })
+                    (append_assoc (written report taken) rest.0 answer.output),
                 rest.1.1,
               ),
             ),

@@ -46,7 +46,8 @@ runs_quiet context names plan before now out result ran files other =
 pub runs_as : {R Q : Type 0} {text : R → List ℕ} {other : Q → List ℕ} (context : RunContext) (names : List (List ℕ))
     (plan : Plan) (before now : Shown) (old new : Taken) (result : Result R Halt) (same : Result Q Halt)
     → ((texts : Texts) → answer_of other texts same ≡ answer_of text texts result)
-    → RunsReady text context names plan before now old new result → RunsReady other context names plan before now old new same
+    → RunsReady text context names plan before now old new result
+    → RunsReady other context names plan before now old new same
 runs_as {R} {Q} {text} {other} context names plan before now old new result same is run =
     let texts = texts_of context.texts in
     let status : status_of same ≡ status_of result =
@@ -99,7 +100,8 @@ runs_stopped context name names report next before now old new halt read = recor
 }
 
 -- behind a file whose lines were all taken the rest of the plan is run
-pub runs_on : {R : Type 0} {text : R → List ℕ} (context : RunContext) (name : List ℕ) (names : List (List ℕ)) (report : Report)
+pub runs_on : {R : Type 0} {text : R → List ℕ} (context : RunContext) (name : List ℕ) (names : List (List ℕ))
+    (report : Report)
     (next : List (List ℕ) → Plan) {has_taken : List (List ℕ) → Type 0} {all : Unit {0}} (before mid now : Shown)
     (old middle new : Taken) (result : Result R Halt)
     → ReadsTo context name report has_taken before mid old middle (Ok all)
@@ -170,12 +172,14 @@ pub runs_unread : {R : Type 0} {text : R → List ℕ} (context : RunContext) (n
     → RunsReady {R = R} text context (name ∷ names) (Document name next) before now out out (Err halt)
 runs_unread context name names next before now out halt read =
     runs_quiet context (name ∷ names) (Document name next) before now out (Err halt)
-    (λ last. ran_unread (texts_of context.texts) (bounds_of context.limits) before.files last name names next before.moment
+    (λ last. ran_unread (texts_of context.texts) (bounds_of context.limits) before.files last name names next
+    before.moment
     now.moment out.written
     read.end (halt_answer (texts_of context.texts) halt) read.read read.gives.0 read.gives.1)
     read.files read.no_write
 
-pub runs_to_judgement : {R : Type 0} {text : R → List ℕ} (context : RunContext) (name : List ℕ) (verdict : List ℕ → Verdict)
+pub runs_to_judgement : {R : Type 0} {text : R → List ℕ} (context : RunContext) (name : List ℕ)
+    (verdict : List ℕ → Verdict)
     (bytes : List ℕ) (before now : Shown) (out : Taken) (result : Result R Halt)
     → WholeReadTo context name before now (Ok bytes)
     → Judges (texts_of context.texts) name (verdict bytes) (answer_of text (texts_of context.texts) result)

@@ -73,7 +73,8 @@ module _ (texts : Texts) (bounds : Bounds) (files : Option Folder) (last : List 
 
   -- a file is absent, or a call on it failed
   pub unreadable_facts : given.status ≡ 3 → NotRead texts files names before now given
-      → WhereTold files (λ folder. ¬ Faulted before.faults now.faults → given ≡ plan_answer texts bounds folder last plan)
+      → WhereTold files (λ folder. ¬ Faulted before.faults now.faults
+      → given ≡ plan_answer texts bounds folder last plan)
       → HasFront texts bounds files last plan given → (IsSilent plan → given.output ≡ []) → (names ≡ [] → now ≡ before)
       → before.opens ≤ now.opens → now.opens ≤ before.opens + length names
       → RunFacts texts bounds files last names plan before now given

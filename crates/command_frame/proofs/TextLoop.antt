@@ -80,7 +80,8 @@ module _ (texts : Texts) (bounds : Bounds) (files : Option Folder) (last : List 
         inr (
           length making.early,
           inl (ap₂ after
-              (sym (ap (take (length making.early)) (sym making.all) ∙ take-append_seam making.early (kept_back ++ rest)))
+              (sym (ap (take (length making.early)) (sym making.all) ∙ take-append_seam making.early
+              (kept_back ++ rest)))
               is),
         ),
       ),

@@ -14,7 +14,8 @@ use Rattle.command_frame.proofs.OutputLemmas.{append_nothing}
 use Rattle.command_frame.proofs.RunsToLemmas.{status_told}
 
 -- a task was run
-pub words_ran : {R : Type 0} {text : R → List ℕ} (context : RunContext) (texts : Texts) (task : Task) (asking : Option Task)
+pub words_ran : {R : Type 0} {text : R → List ℕ} (context : RunContext) (texts : Texts) (task : Task)
+    (asking : Option Task)
     (before now : Shown) (old new : Taken) (result : Result R Halt) (answer : Answer)
     → texts_of context.texts ≡ texts → asking ≡ Some task → answer ≡ answer_of text texts result
     → RunsReady text context task.names task.plan before now old new result

@@ -16,8 +16,8 @@ AreGood report earlier (line ∷ lines) =
 abbrev pub IsShortLine : List ℕ → Type 0
 IsShortLine line = length line < 64
 
--- the first so many of these bytes are so many whole lines. They were taken behind all lines that were taken before, and what
--- they give to standard output stands behind what stood there
+-- the first so many of these bytes are so many whole lines. They were taken behind all lines that
+-- were taken before, and what they give to standard output stands behind what stood there
 pub record HasGivenFront (report : Report) (old new : List (List ℕ) → Type 0) (ready : List ℕ)
     (bytes number : ℕ) (before after : List ℕ) : Type 0 where
   pub lines : List (List ℕ)
@@ -30,8 +30,9 @@ pub record HasGivenFront (report : Report) (old new : List (List ℕ) → Type 0
       → after ≡ before ++ gains_from report earlier lines
   pub taken : (earlier : List (List ℕ)) → old earlier → new (earlier ++ lines)
 
--- the first line of these bytes has so many bytes with its line feed. It was taken behind all lines that were taken before,
--- without a fault, and what it gives to standard output stands behind what stood there
+-- the first line of these bytes has so many bytes with its line feed. It was taken behind all lines
+-- that were taken before, without a fault, and what it gives to standard output stands behind what
+-- stood there
 pub record HasGivenLine (report : Report) (old new : List (List ℕ) → Type 0) (ready : List ℕ)
     (bytes : ℕ) (before after : List ℕ) : Type 0 where
   pub line : List ℕ

@@ -40,8 +40,8 @@ EndsWhere bounds None Absent = Unit {0}
 EndsWhere bounds None Wanting = Unit {0}
 EndsWhere bounds None _ = ⊥
 
--- what an end says of the store's calls, and of its faults: no fault of the document is told where a read failed, and one other
--- than that it is too long only where its end was read
+-- what an end says of the store's calls, and of its faults: no fault of the document is told where
+-- a read failed, and one other than that it is too long only where its end was read
 abbrev pub DocumentCalls : Option Folder → Moment → Moment → DocumentEnd → Type 0
 DocumentCalls files before now Unopened = now ≡ before
 DocumentCalls files before now Absent = Opened before now false

@@ -83,8 +83,8 @@ EndsIn bounds report None left Absent = Unit {0}
 EndsIn bounds report None left (Wanting taken) = taken ≡ []
 EndsIn bounds report None left _ = ⊥
 
--- what an end says of the store's calls, and of its faults; a store that doesn't tell its files is absent of one only where
--- a call failed
+-- what an end says of the store's calls, and of its faults; a store that doesn't tell its files is
+-- absent of one only where a call failed
 abbrev pub Calls : Option Folder → Moment → Moment → FileEnd → Type 0
 Calls files before now Unopened = now ≡ before
 Calls files before now Absent = Opened before now false

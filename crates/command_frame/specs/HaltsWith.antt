@@ -30,7 +30,8 @@ pub record StopsWith {F : Type 0} (told : F → Told) (texts : Texts) (name : Li
   pub unwritten : status_code halt.status ≡ 4 → stop ≡ WriteFailed
   pub write : stop ≡ WriteFailed → status_code halt.status ≡ 4
 
--- the same of the answers to a file that isn't opened or not read, as this text says; to a fault of a file, and of a line
+-- the same of the answers to a file that isn't opened or not read, as this text says; to a fault of
+-- a file, and of a line
 abbrev pub HaltsUnreadable : ProgramTexts → List ℕ → List ℕ → Halt → Type 0
 HaltsUnreadable texts file text halt =
     HaltsWith (texts_of texts) (refused (at_file (texts_of texts) file text) 3) halt

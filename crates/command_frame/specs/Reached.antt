@@ -14,9 +14,10 @@ use Rattle.command_frame.specs.Plan.{Document, Ends, Lines, Pieces, Plan}
 use Rattle.command_frame.specs.Task.{Task}
 use Rattle.command_frame.specs.WholeFault.{whole_fault}
 
--- the first so many bytes of a file with these lines show its refusal: the refused line and its line feed are among them, or, where
--- the line or the file is too long, one byte more than it may have. The end of a file has no line, and a last line without
--- a line feed is told from a longer one by the end alone, so no bytes show a fault of these
+-- the first so many bytes of a file with these lines show its refusal: the refused line and its
+-- line feed are among them, or, where the line or the file is too long, one byte more than it may
+-- have. The end of a file has no line, and a last line without a line feed is told from a longer
+-- one by the end alone, so no bytes show a fault of these
 abbrev pub ShowsRefusal : Bounds → List (List ℕ) → Refusal → ℕ → Type 0
 ShowsRefusal bounds lines refusal taken =
     ((refusal.number ≤ length lines) × (bytes_of_lines (take refusal.number lines) ≤ taken))
@@ -24,12 +25,13 @@ ShowsRefusal bounds lines refusal taken =
     × (bytes_of_lines (take (refusal.number - 1) lines) + bounds.line + 1 ≤ taken))
     ⊎ ((refusal.told ≡ input_too_long) × (bounds.input < taken)))
 
--- how many bytes of a file were taken, which was opened last: all but those that are left, and none where it couldn't be opened
+-- how many bytes of a file were taken, which was opened last: all but those that are left, and none
+-- where it couldn't be opened
 abbrev pub taken_of : Moment → List ℕ → ℕ
 taken_of now bytes = if now.current then length bytes - length (unwrap_or now.left bytes) else 0
 
--- the refusal of a file was reached, if it has one: more files than it were opened, or it alone was, and the bytes taken show
--- it. In a file without one nothing is reached but behind it
+-- the refusal of a file was reached, if it has one: more files than it were opened, or it alone
+-- was, and the bytes taken show it. In a file without one nothing is reached but behind it
 abbrev pub RefusalReached : Bounds → List ℕ → ℕ → Moment → Type 0 → Option Refusal → Type 0
 RefusalReached bounds bytes opened now later (Some refusal) = (1 < opened)
     ⊎ ((opened ≡ 1) × ShowsRefusal bounds (lines_of bytes) refusal (taken_of now bytes))
@@ -52,8 +54,8 @@ DocumentReached bounds opened later None = ⊥
 DocumentReached bounds opened later (Some bytes) = WholeReached opened (later bytes)
     (whole_fault bounds bytes)
 
--- the first fault of a plan was reached, so many of whose files were opened. What is made of all that was read is judged behind
--- the last call
+-- the first fault of a plan was reached, so many of whose files were opened. What is made of all
+-- that was read is judged behind the last call
 abbrev pub PlanReached : Bounds → Folder → Moment → Plan → ℕ → Type 0
 PlanReached bounds folder now (Ends verdict) opened = ⊥
 PlanReached bounds folder now (Pieces text) opened = ⊥

@@ -33,8 +33,9 @@ WasMade texts text given =
     × ((given ≡ after (take count text) (memory_answer texts))
     ⊎ (given ≡ after (take count text) (write_answer texts))))
 
--- a run of a plan over files of these names, from one moment of the store to another, may come to this answer. The file that was
--- read last has the name `last`. The names are those of the plan's files in order; with any others there is no run
+-- a run of a plan over files of these names, from one moment of the store to another, may come to
+-- this answer. The file that was read last has the name `last`. The names are those of the plan's
+-- files in order; with any others there is no run
 abbrev pub Ran : Texts → Bounds → Option Folder → List ℕ → List (List ℕ) → Plan → Moment → Moment
     → Answer → Type 0
 Ran texts bounds files last [] (Ends verdict) before now given =

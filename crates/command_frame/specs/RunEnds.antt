@@ -11,8 +11,9 @@ use Rattle.command_frame.specs.Outside.{ErrFaulted, Gives, OutFaulted, Outside}
 use Rattle.command_frame.specs.RunFacts.{NotRead}
 use Rattle.command_frame.specs.Texts.{Texts}
 
--- an answer was delivered: whole, or at status 4 in part. `write failed` is told only where standard output lacks bytes of it, and
--- is the answer's own message only where standard output failed
+-- an answer was delivered: whole, or at status 4 in part. `write failed` is told only where
+-- standard output lacks bytes of it, and is the answer's own message only where standard output
+-- failed
 pub record IsDelivered (texts : Texts) (given : Answer) (status : ℕ) (before now : Outside) : Type
     0 where
   pub whole : status ≢ 4 → Gives before now given status

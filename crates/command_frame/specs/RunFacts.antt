@@ -15,8 +15,9 @@ use Rattle.command_frame.specs.Texts.{Texts, at_file}
 use Rattle.command_frame.specs.Answer.{Answer, plan_answer}
 use Rattle.command_frame.specs.Moment.{Moment}
 
--- a call of the store failed or a file is absent: the message names the file that was opened last, which is the one at a place
--- among those to be read, and says that it can't be read where a file is current
+-- a call of the store failed or a file is absent: the message names the file that was opened last,
+-- which is the one at a place among those to be read, and says that it can't be read where a file
+-- is current
 pub record NotRead (texts : Texts) (files : Option Folder) (names : List (List ℕ))
     (before now : Moment) (given : Answer) : Type 0 where
   pub place : ℕ

@@ -80,8 +80,8 @@ pub record WholeReadTo (context : RunContext) (name : List ℕ) (before now : Sh
   pub files : now.files ≡ before.files
   pub no_write : status_of result ≢ 4
 
--- a plan was run over files of these names, whatever file was read last before it, and answered the rest of its output, of these
--- bytes, or a halt
+-- a plan was run over files of these names, whatever file was read last before it, and answered the
+-- rest of its output, of these bytes, or a halt
 pub record RunsReady {R : Type 0} (bytes : R → List ℕ) (context : RunContext) (names : List (List ℕ))
     (plan : Plan) (before now : Shown) (old new : Taken) (result : Result R Halt) : Type 0 where
   pub ran : (last : List ℕ)

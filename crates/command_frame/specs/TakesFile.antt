@@ -32,8 +32,8 @@ pub record KeepsLimits (old new : LineReaderState) : Type 0 where
   pub input : new.input ≡ old.input
   pub line : new.line_limit ≡ old.line_limit
 
--- the file was read to its end, or as far as the result says. A read or a write failed exactly where it says so; but where
--- both failed it names the write
+-- the file was read to its end, or as far as the result says. A read or a write failed exactly
+-- where it says so; but where both failed it names the write
 pub record TakesFile {S O F : Type 0} (s : store.Ghosts S) (o : sink.Ghosts O)
     (lines after : LineReaderState) (before now : S) (old new : O)
     (result : Result (Unit {0}) (LinesStop F)) : Type 0 where
@@ -48,8 +48,8 @@ pub record TakesFile {S O F : Type 0} (s : store.Ghosts S) (o : sink.Ghosts O)
   pub write_failed : result ≡ Err WriteFailed → Faulted (o.faults old) (o.faults new)
   pub sound_writes : result ≢ Err WriteFailed → o.faults new ≡ o.faults old
 
--- what the file said, and what the output got of it but for what is kept back: with the lines that were taken and, where a
--- write failed, the number of bytes written
+-- what the file said, and what the output got of it but for what is kept back: with the lines that
+-- were taken and, where a write failed, the number of bytes written
 pub record RanThrough {S O F : Type 0} (s : store.Ghosts S) (o : sink.Ghosts O) (told : F → Told)
     (report : Report) (has_taken : List (List ℕ) → Type 0)
     (lines : LineReaderState) (before now : S) (old new : O) (kept_back : List ℕ)

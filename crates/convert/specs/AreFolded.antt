@@ -5,8 +5,8 @@ use Rattle.cost_tree.specs.Costed.{Costed}
 use Rattle.cost_tree.specs.Inclusive.{own}
 use Rattle.convert.specs.Folded.{lines_text}
 
--- each line has the sum of the items with its list, which isn't 0; each list whose items' sum isn't 0 has a line, and no two
--- lines have one list
+-- each line has the sum of the items with its list, which isn't 0; each list whose items' sum isn't
+-- 0 has a line, and no two lines have one list
 pub record AreFolded (items lines : List Costed) : Type 0 where
   pub sum : (n : ℕ) (line : Costed) → slice_get lines n ≡ Some line
       → line.cost ≡ own line.texts items

@@ -16,8 +16,9 @@ use Rattle.convert.specs.TreeItems.{tree_items}
 abbrev pub line_fronts : List TreeLine → List (List (List ℕ))
 line_fronts lines = map (λ item. item.texts) (tree_items lines)
 
--- each line has the sum of the items that begin with its front, which has at most so many texts and, unless it is empty, a sum
--- other than 0; each such front whose sum isn't 0, and the empty one, has a line, and no two lines have one front
+-- each line has the sum of the items that begin with its front, which has at most so many texts
+-- and, unless it is empty, a sum other than 0; each such front whose sum isn't 0, and the empty
+-- one, has a line, and no two lines have one front
 pub record AreTreeSums (depth : ℕ) (items : List Costed) (lines : List TreeLine) : Type 0 where
   pub count : length (line_fronts lines) ≡ length lines
   pub sum : (n : ℕ) (front : List (List ℕ)) (line : TreeLine)

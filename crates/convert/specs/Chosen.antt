@@ -40,7 +40,8 @@ last_marked passes snaps = find (λ snap. passes snap.mark) (reverse snaps)
 abbrev pub last_chosen : List Snap → Option Snap
 last_chosen snaps = option_or (last_marked is_peak snaps) (last_marked is_detailed snaps)
 
--- the snapshot with this number, where it has a tree; without a number the last peak, and where there is none the last detailed one
+-- the snapshot with this number, where it has a tree; without a number the last peak, and where
+-- there is none the last detailed one
 abbrev pub chosen : Option ℕ → Profile → Option Snap
 chosen (Some number) profile = option_and_then (if_marked has_tree) (slice_get profile.snaps number)
 chosen None profile = last_chosen profile.snaps

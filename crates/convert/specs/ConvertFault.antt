@@ -2,7 +2,8 @@
 -- where no snapshot with a tree is chosen, or where the items' numbers sum to more than 2^62; there
 -- is no Massif profile where points tell of no lifetimes, or where the time at the end or what was
 -- live is more than 2^62.
-use Rattle.std.specs.Prelude.{◌≡◌, ◌≢◌, ℕ, ◌^◌, ◌||◌, nat_lt, Bool, if◌then◌else◌, List, Option, Some, None, Result, Err, sum}
+use Rattle.std.specs.Prelude.{◌≡◌, ◌≢◌, ℕ, ◌^◌, ◌||◌, nat_lt, Bool}
+use Rattle.std.specs.Prelude.{if◌then◌else◌, List, Option, Some, None, Result, Err, sum}
 use Rattle.std.specs.Prelude.{sum_by}
 use Rattle.cost_tree.specs.Costed.{Costed}
 use Rattle.dhat_json.specs.declared.figure.FigureKey.{FigureKey}
@@ -32,7 +33,8 @@ is_too_large number = nat_lt (2 ^ 62) number
 abbrev pub fault_if : Bool → Option ConvertFault
 fault_if too_large = if too_large then Some TooLarge else None
 
--- what stands against the folded lines of a DHAT profile: its points have no figures of the key, or these sum to more than 2^62
+-- what stands against the folded lines of a DHAT profile: its points have no figures of the key, or
+-- these sum to more than 2^62
 unfoldable pub folded_fault : FigureKey → Dhat → Option ConvertFault
 folded_fault key dhat = if has_figures key dhat
     then fault_if (is_too_large (sum (point_costs key dhat))) else Some NoFigures
@@ -50,8 +52,9 @@ snap_fault (Some snap) = items_fault (tree_items snap.tree)
 unfoldable pub folded_massif_fault : Option ℕ → Profile → Option ConvertFault
 folded_massif_fault number profile = snap_fault (chosen number profile)
 
--- what stands against the Massif profile of a DHAT profile: its points tell of no lifetimes, or the time at its end, the bytes
--- that were live at the peak or those that were live at the end are more than 2^62
+-- what stands against the Massif profile of a DHAT profile: its points tell of no lifetimes, or the
+-- time at its end, the bytes that were live at the peak or those that were live at the end are more
+-- than 2^62
 unfoldable pub converted_fault : Dhat → Option ConvertFault
 converted_fault dhat =
     if dhat.bklt

@@ -1,4 +1,5 @@
--- Where a walk over a tree's lines stands, for private clauses: the levels that are open, from the innermost one outwards.
+-- Where a walk over a tree's lines stands, for private clauses: the levels that are open, from the
+-- innermost one outwards.
 use Rattle.std.specs.Prelude.{◌≡◌, ℕ, zero, suc, ◌-◌, List, [], ◌∷◌, ◌++◌, drop, length, map, reverse, sum, take}
 use Rattle.std.specs.Global.{Vec}
 use Rattle.cost_tree.specs.Costed.{Costed}
@@ -61,7 +62,8 @@ Enters label children old new = reverse new ≡ entered label children (reverse 
 abbrev pub TakesOne : List Level → List Level → Type 0
 TakesOne old new = reverse new ≡ one_less (without_done (reverse old))
 
--- the items of the trees that are still to come: at each level as many as it waits for, and what is left stands beside all
+-- the items of the trees that are still to come: at each level as many as it waits for, and what is
+-- left stands beside all
 unfoldable pub items_left : List (List ℕ) → List Level → List (List Costed) → List Costed
 items_left names [] trees = all_items trees
 items_left names (level ∷ outer) trees = map (under (path_of names (level ∷ outer)))

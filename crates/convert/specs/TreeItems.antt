@@ -29,8 +29,8 @@ below text item = record { texts = text ∷ item.texts; cost = item.cost }
 abbrev pub all_items : List (List Costed) → List Costed
 all_items trees = flat_map (λ items. items) trees
 
--- the items of each tree, one for each line in the order of the file: the shown labels from the root down to the line, and what
--- the line's children leave
+-- the items of each tree, one for each line in the order of the file: the shown labels from the
+-- root down to the line, and what the line's children leave
 unfoldable pub forest_items : List TreeLine → List (List Costed)
 forest_items [] = []
 forest_items (line ∷ lines) =

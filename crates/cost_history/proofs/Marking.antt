@@ -109,7 +109,8 @@ with_mark-other : (marks : MarksState) (stack other : ℕ) → other ≢ stack
 with_mark-other marks stack other apart =
     elim (cases_Bool (has marks.listed stack)) [
       | inl was ↦ ap
-          (λ (b : Bool). is_marked (cond {A = MarksState} b marks (record marks { listed = marks.listed ++ stack ∷ [] }))
+          (λ (b : Bool). is_marked (cond {A = MarksState} b marks
+          (record marks { listed = marks.listed ++ stack ∷ [] }))
           other)
           was
       | inr none ↦

@@ -51,7 +51,8 @@ listed-already order places count stack all placed held among =
     in state)
     (sym is)
 
--- the order and the places after the stack, which stands at place, and the other one, which stands at count, are exchanged
+-- the order and the places after the stack, which stands at place, and the other one, which stands
+-- at count, are exchanged
 abbrev pub order_after : List ℕ → ℕ → ℕ → ℕ → ℕ → List ℕ
 order_after order place other count stack = set (set order place other) count stack
 

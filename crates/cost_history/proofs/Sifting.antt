@@ -204,7 +204,8 @@ sifting-kept whole changes seen kept last left i j change until now is read stop
           (parted-more seen kept change rest until last now.first now.parted (λ k d inside. (each k d inside).1) stops
           behind);
       costs =
-          λ place is_asked stack. ap (λ (xs : List Change). cost_at xs place stack) both ∙ now.costs place is_asked stack;
+          λ place is_asked stack. ap (λ (xs : List Change). cost_at xs place stack) both
+          ∙ now.costs place is_asked stack;
     }
 
 -- its stack has a cell

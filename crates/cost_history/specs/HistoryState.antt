@@ -6,8 +6,8 @@ use Rattle.cost_history.specs.declared.change.Change.{Change}
 use Rattle.cost_history.specs.Changes.{cost_at}
 use Rattle.cost_history.specs.Marks.{MarksState, is_marked, no_marks}
 
--- the marks, how many stacks there were at the last place that was kept, the changes in their order, how many of these were
--- left when they were last thinned, and that place
+-- the marks, how many stacks there were at the last place that was kept, the changes in their
+-- order, how many of these were left when they were last thinned, and that place
 pub record HistoryState : Type 0 where
   pub marks : MarksState
   pub stacks : ℕ

@@ -1,4 +1,5 @@
--- A front that one stack alone begins with: it has no more than one that is one text longer, and its lines are one each.
+-- A front that one stack alone begins with: it has no more than one that is one text longer, and
+-- its lines are one each.
 use Rattle.std.proofs.Common.{◌≡◌, ◌≢◌, ℕ, zero, suc, ◌+◌, ◌-◌, ◌<◌, ◌≤◌, inl, inr, ◌&&◌, not, Bool, true, false, eqb}
 use Rattle.std.proofs.Common.{cond, List, [], ◌∷◌, ◌++◌, length, map, filter, take, get_or, refl, sym, ap, ◌∙◌, subst}
 use Rattle.std.proofs.Common.{append-nil, arith}

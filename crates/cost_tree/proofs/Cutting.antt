@@ -17,7 +17,8 @@ use Rattle.cost_tree.proofs.Firsts.{one-longer}
 use Rattle.cost_tree.proofs.Prefixes.{has_front-Decides}
 use Rattle.cost_tree.proofs.Walks.{lists-same}
 
--- so many texts of a list are at most one more than a front may have, and the fronts that they go on from cost enough for lines
+-- so many texts of a list are at most one more than a front may have, and the fronts that they go
+-- on from cost enough for lines
 record AreLarge (depth : ℕ) (scale : Scale) (all : List Costed) (texts : List (List ℕ)) (n : ℕ) : Type 0 where
   short : n ≤ depth + 1
   each : (j : ℕ) → 0 < j → j < n → is_small scale (cost_of all (take j texts)) ≡ false

@@ -1,5 +1,5 @@
--- Lemmas on a tree that grows, as one list is added: it is counted at node 0, reaches a node that is there, makes nodes, and
--- ends.
+-- Lemmas on a tree that grows, as one list is added: it is counted at node 0, reaches a node that
+-- is there, makes nodes, and ends.
 use Rattle.std.proofs.Common.{◌≡◌, ◌≢◌, ℕ, zero, suc, ◌+◌, ◌<◌, ◌≤◌, ◌⊎◌, inl, inr, ◌==◌, Bool, true, false}
 use Rattle.std.proofs.Common.{if◌then◌else◌, List, [], ◌∷◌, ◌++◌, length, get_or, set, take, Some, refl, sym, ap, ◌∙◌}
 use Rattle.std.proofs.Common.{subst, arith}
@@ -399,7 +399,8 @@ IsGrown-ended names edges nodes fronts before depth n texts is_whole node cost a
       ];
       complete = λ front short some. let sum = same.sum front short in grown.complete front short (omega arith);
       only =
-          λ k front over found. let sum = same.sum front (grown.short k front found) in let was = grown.only k front over
+          λ k front over found. let sum = same.sum front
+          (grown.short k front found) in let was = grown.only k front over
           found in omega arith;
       order = λ k m older younger over le older_at younger_at.
           let first_k = same_first k older older_at in
@@ -490,7 +491,8 @@ IsGrown-free fronts nodes before depth texts grown =
       empty = grown.empty;
       complete = λ front short some. let sum = same.sum front short in grown.complete front short (omega arith);
       only =
-          λ n front over found. let sum = same.sum front (grown.short n front found) in let was = grown.only n front over
+          λ n front over found. let sum = same.sum front
+          (grown.short n front found) in let was = grown.only n front over
           found in omega arith;
       order = grown.order;
     }

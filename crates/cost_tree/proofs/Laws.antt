@@ -30,7 +30,8 @@ use Rattle.cost_tree.proofs.Orders.{by_cost-permutation}
 use Rattle.cost_tree.proofs.Steps as steps
 use Rattle.cost_tree.proofs.Sums as sums
 use Rattle.cost_tree.proofs.Walks.{next-few}
--- what stacks cost by the first one and the others, whether texts begin with a front or are it, and texts that keep their numbers
+-- what stacks cost by the first one and the others, whether texts begin with a front or are it, and
+-- texts that keep their numbers
 pub use Rattle.cost_tree.proofs.Heads.{inclusive-cons, least-cons}
 pub use Rattle.cost_tree.proofs.Prefixes.{has_front-take, is_front-Decides}
 pub use Rattle.cost_tree.proofs.Listing.{lists-kept, text-named, texts-grown, texts-kept}
@@ -112,8 +113,8 @@ pub inclusive-longer : (front more : List (List ℕ)) (stacks : List Costed)
     → inclusive (front ++ more) stacks ≤ inclusive front stacks
 inclusive-longer = sums.inclusive-longer
 
--- where the threshold is 0, all have lines of their own: each goes on by its last text and costs something, each front one text
--- longer that costs something is among them, and no two are one
+-- where the threshold is 0, all have lines of their own: each goes on by its last text and costs
+-- something, each front one text longer that costs something is among them, and no two are one
 pub small-none : (scale : Scale) (stacks : List Costed) (front : List (List ℕ)) → scale.threshold ≡ 0
     → small_fronts scale stacks front ≡ []
 small-none = nexts.small-none

@@ -64,7 +64,8 @@ AreLinksFrom-end nodes firsts nexts some firsts_count nexts_count none = record 
   nexts_count = nexts_count;
   first = λ n within. record {
     rest =
-        children_from-end nodes n (length nodes) (omega arith) ∙ sym (chain-none nodes n (slice_index firsts n) (none n));
+        children_from-end nodes n (length nodes) (omega arith) ∙ sym
+        (chain-none nodes n (slice_index firsts n) (none n));
     within = let is = none n in omega arith;
     parent = λ node child at. absurd (child (none n));
   };

@@ -131,7 +131,8 @@ HasChild-is edges new ends edge place is within (inl found) =
       steps = is.steps;
       lists = refl;
       list =
-          get_or_from_slice_get (numbers_of edges) (place + 1) (next_front (λ number. number) (numbers_of edges) edge) []
+          get_or_from_slice_get (numbers_of edges) (place + 1)
+          (next_front (λ number. number) (numbers_of edges) edge) []
           step.front;
       within = omega arith;
       more = omega arith;
@@ -158,7 +159,8 @@ HasChild-is edges new ends edge place is within (inr made) =
       within = omega (arith, made.1);
       more = omega arith;
       old =
-          λ k other found. elim (get-push_cases edges edge k other found) [ inl here ↦ inl here | inr last ↦ inr last.1 ];
+          λ k other found. elim (get-push_cases edges edge k other found)
+          [ inl here ↦ inl here | inr last ↦ inr last.1 ];
     })
 
 -- the shape with a number more at the end of the last list

@@ -103,7 +103,8 @@ opens-is front stacks n within opened =
     record {
       count = omega arith;
       begins =
-          (has_front-Decides front texts).0 two.0 ∙ sym (take-take (length front) (length front + 1) texts (omega arith));
+          (has_front-Decides front texts).0 two.0 ∙ sym
+          (take-take (length front) (length front + 1) texts (omega arith));
       some = some;
       least_is = is;
     }

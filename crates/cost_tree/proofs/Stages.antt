@@ -436,7 +436,8 @@ IsStage-reached names shape tree before list path cost depth node n above growth
         numbering = growth.numbering;
         levels = growth.levels;
         grown =
-            IsGrown-reached names tree.edges.items tree.nodes.items (fronts_of names tree.edges.items) before before depth
+            IsGrown-reached names tree.edges.items tree.nodes.items
+            (fronts_of names tree.edges.items) before before depth
             n front cost growth.branches growth.grown above held;
       };
       at = held;

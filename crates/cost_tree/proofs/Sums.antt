@@ -258,7 +258,8 @@ AddsAt-more stacks texts cost j above within =
     record {
       sum = let old = olds at in let new = news at in omega arith;
       others =
-          λ front other. let old = olds front in let new = news front in let same = same_part front other in omega arith;
+          λ front other. let old = olds front in let new = news front in let same = same_part front other in omega
+          arith;
       first = λ none'. let old = olds at in least-push_new at stacks after (omega arith) (omega arith);
       kept = λ front some. least-instead front stacks before after (λ has. keeps front has) some;
     }

@@ -41,7 +41,8 @@ use Rattle.cost_tree.proofs.Sums.{least-within}
 use Rattle.cost_tree.proofs.Trees.{least-has}
 use Rattle.cost_tree.proofs.Walks.{lists-same}
 
--- lists with their costs, and as many of their first texts as stand beside them: some, and fewer than all where a list goes on alone
+-- lists with their costs, and as many of their first texts as stand beside them: some, and fewer
+-- than all where a list goes on alone
 pub record AreForked (lists : List (List (List ℕ))) (counts costs : List ℕ) : Type 0 where
   pub count : length counts ≡ length lists
   pub costs_count : length costs ≡ length lists

@@ -25,7 +25,8 @@ abbrev pub AddsFirst : List ℕ → List Chain → ℕ → ℕ → List ℕ → 
 AddsFirst numbers chains list most old new =
     new ≡ old ++ take most (slice_index_or (chain_lists numbers chains) list [])
 
--- a list at a place: its own numbers are held, it goes on with an earlier one or none, and it has as many numbers as it says
+-- a list at a place: its own numbers are held, it goes on with an earlier one or none, and it has
+-- as many numbers as it says
 pub record IsChain (numbers : List ℕ) (lists : List (List ℕ)) (place : ℕ) (chain : Chain) : Type
     0 where
   pub ordered : chain.start ≤ chain.end

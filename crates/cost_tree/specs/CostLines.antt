@@ -37,8 +37,8 @@ cost_of stacks front = inclusive front stacks
 abbrev pub last_of : List (List ℕ) → List ℕ
 last_of front = slice_index_or front (length front - 1) []
 
--- the fronts that are one text longer and have lines of their own, in the order of their lines: by descending cost, and of
--- equal costs that of the lower stack first
+-- the fronts that are one text longer and have lines of their own, in the order of their lines: by
+-- descending cost, and of equal costs that of the lower stack first
 unfoldable pub kept_fronts : Scale → List Costed → List (List ℕ) → List (List (List ℕ))
 kept_fronts scale stacks front = by_cost (cost_of stacks)
     (filter (λ next. not (is_small scale (cost_of stacks next))) (next_fronts front stacks))

@@ -16,8 +16,9 @@ cut_lists [] lists = []
 cut_lists (count ∷ counts) [] = []
 cut_lists (count ∷ counts) (list ∷ lists) = take count list ∷ cut_lists counts lists
 
--- so many first texts of a stack are enough for the lines of fronts of at most `depth` texts: they are all, or more than these
--- have, or what the stacks cost that begin with them is too small for a line
+-- so many first texts of a stack are enough for the lines of fronts of at most `depth` texts: they
+-- are all, or more than these have, or what the stacks cost that begin with them is too small for a
+-- line
 pub record IsEnough (depth : ℕ) (scale : Scale) (stacks : List Costed) (texts : List (List ℕ))
     (count : ℕ) : Type 0 where
   pub some : count < length texts → 0 < count

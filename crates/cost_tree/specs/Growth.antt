@@ -44,8 +44,8 @@ pub record AreBranches (names : List (List ℕ)) (edges : List Edge) (nodes : Li
   pub parent : (place : ℕ) (edge : Edge) (node : CostNode) → slice_get edges place ≡ Some edge
       → slice_get nodes (place + 1) ≡ Some node → node.parent ≡ edge.parent
 
--- the tree has the nodes of the stacks. A node has its own cost by those that are done, and the cost of those that end at
--- it or are cut there; node 0 has the cost of all
+-- the tree has the nodes of the stacks. A node has its own cost by those that are done, and the
+-- cost of those that end at it or are cut there; node 0 has the cost of all
 pub record IsGrown (fronts : List (List (List ℕ))) (nodes : List CostNode)
     (stacks done : List Costed) (depth : ℕ) : Type 0 where
   pub short : (n : ℕ) (front : List (List ℕ)) → slice_get fronts n ≡ Some front

@@ -149,7 +149,8 @@ module _ (old new : Gathered) (ds : List Data) (d : Data) (few : old.count < 2 ^
   found_here : length (ds ++ d ∷ []) < 2 ^ 32 - 1 → old.fault ≡ None
       → first_of (shape_findings old.shape (ds ++ d ∷ [])) ≡ here
   found_here lt none =
-      next_is old.shape.bklt old.shape.bkacc old.shape.frames ds d old.count (h.count (before lt)) (found_so_far lt none)
+      next_is old.shape.bklt old.shape.bkacc old.shape.frames ds d old.count (h.count (before lt))
+      (found_so_far lt none)
 
   -- a fault before it
   pub fault_kept : (fault : DhatFault) → old.fault ≡ Some fault → new.fault ≡ Some fault

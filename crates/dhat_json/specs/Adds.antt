@@ -34,8 +34,8 @@ abbrev mutual
 abbrev pub before_rest : List Token → Members → List Token
 before_rest tokens rest = tokens ++ members_tokens (members_outline rest)
 
--- The writer gained the tokens of the members that `more` puts before the rest of an object, whatever that rest is; what
--- its buffer held at the start stays.
+-- The writer gained the tokens of the members that `more` puts before the rest of an object,
+-- whatever that rest is; what its buffer held at the start stays.
 pub record Adds (old new : Written) (more : Members → Members) : Type 0 where
   pub before : new.before ≡ old.before
   pub tokens : (rest : Members) → before_rest old.tokens (more rest) ≡ before_rest new.tokens rest

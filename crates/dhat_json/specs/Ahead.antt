@@ -1,5 +1,5 @@
--- For private clauses: what stands next among the tokens of a text, as data, with the tokens behind
--- it; nothing where a number in it is out of range.
+-- What stands next among the tokens of a text, as data, with the tokens behind it; nothing where a
+-- number in it is out of range, for private clauses.
 use Rattle.std.specs.Prelude.{◌≡◌, ℕ, List, length, Option, Result, Some, None, MatchResult}
 use Rattle.std.specs.Option.{option_map}
 use Rattle.json.specs.Token.{Token}

@@ -229,7 +229,8 @@ lives-set events lives stack life held few are sound =
       events_within = omega arith;
       each_stack = λ n. elim (eqb_tells n stack) [
         | inl own ↦ subst (λ (l : Life). IsLife l (events + 1))
-            (sym (ap (λ (m : ℕ). life_at (set lives stack life) m) own.1 ∙ get_or-set_same lives stack life no_sums held))
+            (sym (ap (λ (m : ℕ). life_at (set lives stack life) m) own.1
+            ∙ get_or-set_same lives stack life no_sums held))
             sound
         | inr apart ↦ subst (λ (l : Life). IsLife l (events + 1))
             (sym (get_or-set_other lives stack n life no_sums apart.1))
@@ -481,7 +482,8 @@ takes-alloc state events lives event info stack size life view is held possible 
       held = stack_held;
       read = read;
       fits =
-          rw read (alloc-fits events lives possible.0 info stack size stands (balanced _ stack (rw is at possible.1.1)));
+          rw read (alloc-fits events lives possible.0 info stack size stands
+          (balanced _ stack (rw is at possible.1.1)));
     }
 
 -- the stack of a free has these sums, and the block is live in it
@@ -514,7 +516,8 @@ takes-free state events lives event info stack size life view is held possible b
 pub record HasMoved (events : ℕ) (lives : List Life) (stack : ℕ) (life : Life) (event : Event) : Type 0 where
   pub kept : AreLives (events + 1) (set lives stack life)
   pub moves : (n : ℕ)
-      → Moves (figures_at (state_of events lives) n) (figures_at (state_of (events + 1) (set lives stack life)) n) n event
+      → Moves (figures_at (state_of events lives) n)
+      (figures_at (state_of (events + 1) (set lives stack life)) n) n event
 
 pub moved-alloc : (events : ℕ) (lives : List Life) (info stack size : ℕ) (old new : Life) → events < 2 ^ 32
     → AreLives events lives → TakesAlloc lives stack size old → new ≡ with_alloc old size (events + 1)
@@ -524,7 +527,8 @@ moved-alloc events lives info stack size old new few are takes is =
     record {
       kept = rw is (lives-set events lives stack _ takes.held few are (alloc-keeps old size events takes.fits sound));
       moves =
-          rw is (set-moves events lives stack _ (Alloc info stack size) takes.held are refl (alloc-apart info stack size)
+          rw is (set-moves events lives stack _ (Alloc info stack size) takes.held are refl
+          (alloc-apart info stack size)
           (λ n apart. refl)
           (rw (← takes.read) (alloc-moves old events stack info size sound)));
     }

@@ -57,7 +57,8 @@ again q (x ∷ xs) text held =
         → list_any (bytes_eq text) (filter q (filter (λ y. not (bytes_eq x y)) (without_repeats bytes_eq xs))) ≡ true
     by true same passes = absurd (false≢true passes)
     by false other passes =
-        among x text (filter q (filter (λ y. not (bytes_eq x y)) (without_repeats bytes_eq xs))) (q x) other (held passes)
+        among x text (filter q (filter (λ y. not (bytes_eq x y)) (without_repeats bytes_eq xs))) (q x) other
+        (held passes)
 
 -- a text of the table that comes again
 pub repeated : (table came : List (List ℕ)) (text : List ℕ) → list_any (bytes_eq text) table ≡ true

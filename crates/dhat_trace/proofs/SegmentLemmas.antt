@@ -22,7 +22,8 @@ use Rattle.dhat_trace.proofs.KnownLemmas.{outer_texts, places_both, places_stay}
 use Rattle.dhat_trace.proofs.PlaceLemmas.{adds_more, keeps_later}
 
 -- the places from a segment's start on are those of its stack's frames, but for what the stack that is left has
-pub record IsBegun (tables : TableState) (table : List (List ℕ)) (at : ℕ) (places : List ℕ) (segment : Segment) : Type 0 where
+pub record IsBegun (tables : TableState) (table : List (List ℕ)) (at : ℕ) (places : List ℕ)
+    (segment : Segment) : Type 0 where
   pub held : segment.stack ≤ length tables.nodes
   pub within : segment.start ≤ length places
   pub behind : (new : List (List ℕ)) (outer : List ℕ) → Keeps table new → HavePlaces new (outer_texts tables at) outer
@@ -42,7 +43,8 @@ begun_here tables table at places start some held is = record {
 }
 
 -- one that may begin here
-pub begun_noted : (P : Segment → Type 0) (old new : List Segment) (segment : Segment) → (new ≡ old) ⊎ (new ≡ old ++ segment ∷ [])
+pub begun_noted : (P : Segment → Type 0) (old new : List Segment) (segment : Segment)
+    → (new ≡ old) ⊎ (new ≡ old ++ segment ∷ [])
     → All P old → P segment → All P new
 begun_noted P old new segment noted all one = elim noted [
   | inl same ↦ subst (All P) (sym same) all
@@ -278,5 +280,6 @@ inwards_last tables stack old before table told more places own end next segment
           subst (HavePlaces table (frame_texts tables stack)) (sym (get_or-set_at told stack stack list [] refl within))
           held;
       kept =
-          λ other was. both.1 other (places_stay old table keeps (frame_texts tables other) (get_or before other []) was);
+          λ other was. both.1 other (places_stay old table keeps (frame_texts tables other)
+          (get_or before other []) was);
     })

@@ -1,4 +1,5 @@
--- The places of the frames of instructions and of stacks, which are kept so that texts are made once, for private clauses.
+-- The places of the frames of instructions and of stacks, which are kept so that texts are made
+-- once, for private clauses.
 use Rattle.std.specs.Prelude.{◌≡◌, ℕ, ◌+◌, ◌<◌, List, [], ◌∷◌, ◌++◌, length, map, slice_get, Some}
 use Rattle.ht_trace.specs.declared.frame.FrameAt.{FrameAt}
 use Rattle.ht_trace.specs.StackFrames.{frames_of}

@@ -40,8 +40,8 @@ abbrev pub most_moment : List Event → ℕ → ℕ
 most_moment events stack = first_greatest
     (map (λ k. live_after stack k events) (range_with_len 0 (event_count events + 1)))
 
--- how long the blocks of a stack lived together: from the time of the event that allocated a block to that of the one that
--- freed it, or to that of the last event
+-- how long the blocks of a stack lived together: from the time of the event that allocated a block
+-- to that of the one that freed it, or to that of the last event
 abbrev pub lived : List Event → ℕ → ℕ
 lived events stack = free_times stack events
     + event_count events * blocks_in stack events - alloc_times stack events

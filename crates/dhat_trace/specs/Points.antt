@@ -1,6 +1,7 @@
 -- The points of a trace, one for each stack that allocated. There is a point for each stack that
 -- allocated, by ascending number.
-use Rattle.std.specs.Prelude.{◌≡◌, ℕ, nat_lt, if◌then◌else◌, List, [], ◌∷◌, ◌++◌, filter, map, slice_index_or, Some, None, Ok}
+use Rattle.std.specs.Prelude.{◌≡◌, ℕ, nat_lt, if◌then◌else◌, List, [], ◌∷◌}
+use Rattle.std.specs.Prelude.{◌++◌, filter, map, slice_index_or, Some, None, Ok}
 use Rattle.std.specs.List.{range_with_len}
 use Rattle.dhat_json.specs.declared.profile.Dhat.{Dhat}
 use Rattle.dhat_json.specs.declared.profile.Point.{Point}

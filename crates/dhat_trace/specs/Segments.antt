@@ -1,4 +1,5 @@
--- The places of a stack's frames, and where those of stacks stand among them that it's called from, for private clauses.
+-- The places of a stack's frames, and where those of stacks stand among them that it's called from,
+-- for private clauses.
 use Rattle.std.specs.Prelude.{◌≡◌, ◌⊎◌, ℕ, ◌≤◌, List, [], ◌∷◌, ◌++◌, All, Option, drop, length}
 use Rattle.cost_tree.specs.Following.{following}
 use Rattle.ht_trace.specs.TableState.{TableState}

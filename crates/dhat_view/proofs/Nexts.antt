@@ -1,4 +1,5 @@
--- The fronts that are one text longer than a front: what the small ones are, and that the others have lines of their own.
+-- The fronts that are one text longer than a front: what the small ones are, and that the others
+-- have lines of their own.
 use Rattle.std.proofs.Common.{◌≡◌, ◌≢◌, ℕ, zero, suc, ◌+◌, ◌*◌, ◌<◌, ◌≤◌, true, false, not, Bool, List, [], ◌∷◌, ◌++◌}
 use Rattle.std.proofs.Common.{length, filter, get_or, cond, inl, inr, refl, sym, ap, ◌∙◌, subst, arith, IsPermutation}
 use Rattle.std.specs.Prelude.{All, AllPairs, Contains, nat_lt}
@@ -39,7 +40,8 @@ by_cost-moved cost (x ∷ xs) =
     (IsPermutation-cons x xs (by_cost cost xs) (by_cost-moved cost xs))
     (before_cheaper-moved cost x (by_cost cost xs))
 
--- Where the threshold is 0, the fronts with lines are all that are one text longer: so what holds of those holds of these.
+-- Where the threshold is 0, the fronts with lines are all that are one text longer: so what holds
+-- of those holds of these.
 
 abbrev whole : Scale
 whole = record { total = 0; threshold = 0 }
@@ -161,7 +163,8 @@ are-small scale stacks front = record {
   each = λ k d within. record {
     longer = All-filter small (GoesOn front) nexts (next-goes_on stacks front) k d within;
     more_than_0 =
-        All-filter small (λ (next : List (List ℕ)). 0 < inclusive next stacks) nexts (next-some stacks front) k d within;
+        All-filter small (λ (next : List (List ℕ)). 0 < inclusive next stacks) nexts
+        (next-some stacks front) k d within;
     small = ltb-true _ _ (filter_passes small nexts k d within);
   };
   all =

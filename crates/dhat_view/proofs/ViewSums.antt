@@ -424,7 +424,8 @@ unfolding cost_lines
 view-sums depth scale stacks = record {
   root = first-line depth scale stacks;
   each =
-      λ n line at. sum-at scale stacks [] (front_lines depth scale stacks []) n line (lines-sums depth scale stacks [] [])
+      λ n line at. sum-at scale stacks [] (front_lines depth scale stacks []) n line
+      (lines-sums depth scale stacks [] [])
       at;
   all = λ front short some large.
       (let found = lines-held depth scale stacks [] front short some large in

@@ -58,8 +58,8 @@ IsSumOf scale stacks before line (a_front front) = (line.level ≡ length front)
     × (line.cost ≡ inclusive front stacks)
 IsSumOf scale stacks before line (gathered places) = GathersSmall scale stacks before line places
 
--- the first line is that of the empty front, each line has its sum, each front of at most so many texts that costs something and
--- isn't small has a line, and no two lines are of one front
+-- the first line is that of the empty front, each line has its sum, each front of at most so many
+-- texts that costs something and isn't small has a line, and no two lines are of one front
 pub record AreViewSums (depth : ℕ) (scale : Scale) (stacks : List Costed)
     (lines : List FrontLine) : Type 0 where
   pub root : (line : FrontLine) × (slice_get lines 0 ≡ Some line) × (line.shown ≡ a_front [])

@@ -222,7 +222,8 @@ refused_run bounds files last trace job before now given laws ran one folder kno
         ⊎ (answer ≡ memory_answer heaprec_texts))
 
     by : (end : FileEnd) → EndsIn bounds (check_report job) (file_of folder trace) mid.left end
-        → GoesOn heaprec_texts trace (check_report job) end rest mid now given → IsRefused folder trace job given.message
+        → GoesOn heaprec_texts trace (check_report job) end rest mid now given
+        → IsRefused folder trace job given.message
     by Unopened ends goes = absurd (omega (arith, one, ap (λ (a : Answer). a.status) goes.0))
     by Absent ends goes = absurd (omega (arith, one, ap (λ (a : Answer). a.status) goes.0))
     by CannotOpen ends goes = absurd (omega (arith, one, ap (λ (a : Answer). a.status) goes.0))

@@ -45,7 +45,8 @@ use Rattle.heaprec_commands.proofs.SilentLemmas.{files_silent, task_silent}
 ran_asked : (context : RunContext) (limit : ℕ) (files : Option Folder) (asked : RecordAsked) (text : List ℕ)
     (before now : Moment) (answer : Texts → Answer)
     → texts_of context.texts ≡ heaprec_texts
-    → Ran (texts_of context.texts) (bounds_of context.limits) files [] (names_of asked) (record_plan limit text asked) before
+    → Ran (texts_of context.texts) (bounds_of context.limits) files [] (names_of asked)
+    (record_plan limit text asked) before
     now (answer (texts_of context.texts))
     → WordsRan heaprec_texts (bounds_of context.limits) files (task_asked limit text (Some asked)) before now
     (answer heaprec_texts)
@@ -81,17 +82,20 @@ asked_halted may_write context limit asked before now old new halt texts read = 
   done = λ zero. absurd (code_isnt_zero halt.status zero);
   faulty =
       λ trace is one. inl
-      (ran_asked context limit before.files (asks asked.modules asked.scripts (Records false)) [] before.moment now.moment
+      (ran_asked context limit before.files (asks asked.modules asked.scripts (Records false)) [] before.moment
+      now.moment
       (λ t. halt_answer t halt) texts (read.goes_on [] [] (task_plan [] (Records false))));
 }
 
 -- the files were read, and what they say was recorded
-pub asked_done : (may_write : Bool → Job → List ℕ → Type 0) (context : RunContext) (limit : ℕ) (modules : Option (List ℕ))
+pub asked_done : (may_write : Bool → Job → List ℕ → Type 0) (context : RunContext) (limit : ℕ)
+    (modules : Option (List ℕ))
     (scripts : List (List ℕ)) (summary : Bool) (before now : Shown) (old new : Taken) (job : Job) (text : List ℕ)
     → texts_of context.texts ≡ heaprec_texts
     → FrontRead context (files_front modules scripts (no_job limit)) before now old new (Ok job)
     → may_write summary job text
-    → WordsRecord may_write (bounds_of context.limits) limit (Some (asks modules scripts (Records summary))) before now old
+    → WordsRecord may_write (bounds_of context.limits) limit
+    (Some (asks modules scripts (Records summary))) before now old
     new (done text)
 asked_done may_write context limit modules scripts summary before now old new job text texts read may =
     let leads = read.goes_on.runs [] [] (task_plan text (Records summary)) in
@@ -108,18 +112,26 @@ asked_done may_write context limit modules scripts summary before now old new jo
         sound = λ other. read.sound (λ four. absurd (omega (arith, four)));
       };
       done =
-          λ zero. record { job = job; may = may; count = omega (arith, read.goes_on.threads); told = read.goes_on.gives };
+          λ zero. record {
+            job = job;
+            may = may;
+            count = omega
+                (arith, read.goes_on.threads);
+            told = read.goes_on.gives;
+          };
       faulty = λ trace is one. absurd (cc);
     }
 
 -- the files were read, and memory was wanting for a recording
-pub asked_wanting : (may_write : Bool → Job → List ℕ → Type 0) (context : RunContext) (limit : ℕ) (modules : Option (List ℕ))
+pub asked_wanting : (may_write : Bool → Job → List ℕ → Type 0) (context : RunContext) (limit : ℕ)
+    (modules : Option (List ℕ))
     (scripts : List (List ℕ)) (summary : Bool) (before now : Shown) (old new : Taken) (job : Job) {Z : Type 0}
     (result : Result (Vec ℕ Z) Halt)
     → texts_of context.texts ≡ heaprec_texts
     → FrontRead context (files_front modules scripts (no_job limit)) before now old new (Ok job)
     → IsErrAnd result (λ halt. halt ≡ record { message = OutOfMemory; status = NoMemory })
-    → WordsRecord may_write (bounds_of context.limits) limit (Some (asks modules scripts (Records summary))) before now old
+    → WordsRecord may_write (bounds_of context.limits) limit
+    (Some (asks modules scripts (Records summary))) before now old
     new (rest_of heaprec_texts result)
 asked_wanting may_write context limit modules scripts summary before now old new job (Ok rest) texts read is = absurd is
 asked_wanting may_write context limit modules scripts summary before now old new job (Err halt) texts read is =
@@ -183,7 +195,8 @@ asked_checked may_write context limit modules scripts trace before mid now old b
         sound = λ other. check.sound (λ four. other (status ∙ four)) ∙ same;
       };
       done =
-          λ zero. checked_run heaprec_texts (bounds_of context.limits) limit before.files modules scripts leads.0 trace job
+          λ zero. checked_run heaprec_texts (bounds_of context.limits) limit before.files modules scripts leads.0 trace
+          job
           mid.moment now.moment (after run.0 (rest_of heaprec_texts result)) laws read.goes_on.gives said zero;
       faulty = λ other is one. inr (λ folder known.
           let same : trace ≡ other = cc in

@@ -171,7 +171,8 @@ opened_once : (files : Option Folder) (before now : Moment) (end : FileEnd) (tak
 opened_once files before now end taken calls is = (subst (λ (e : FileEnd). Calls files before now e) is calls).0.opens
 
 -- behind a file whose lines were all taken
-leads_on : (texts : Texts) (bounds : Bounds) (files : Option Folder) (kind : InputKind) (name : List ℕ) (start job : Job)
+leads_on : (texts : Texts) (bounds : Bounds) (files : Option Folder) (kind : InputKind) (name : List ℕ)
+    (start job : Job)
     (before now : Moment) (end : FileEnd) (taken : List (List ℕ))
     → FileRead bounds files name (file_report kind start) before now end → end ≡ Passed taken
     → job ≡ with_lines kind start taken
@@ -213,7 +214,8 @@ no_failed_write : (halt : Halt) → halt ≡ record { message = OutOfMemory; sta
     → status_code halt.status ≢ 4
 no_failed_write halt is = λ four. omega (arith, sym (ap (λ (h : Halt). status_code h.status) is) ∙ four)
 
-wants_file : (context : RunContext) (files : Option Folder) (kind : InputKind) (name : List ℕ) (start : Job) (now : Moment)
+wants_file : (context : RunContext) (files : Option Folder) (kind : InputKind) (name : List ℕ) (start : Job)
+    (now : Moment)
     (halt : Halt)
     → halt ≡ record { message = OutOfMemory; status = NoMemory }
     → GoesOn (texts_of context.texts) (bounds_of context.limits) files (file_front kind name start) now now (Err halt)
@@ -257,11 +259,13 @@ wanting_file context kind name start store out (Err halt) is =
     wanting_front context (file_front kind name start) store out halt is
     (wants_file context store.files kind name start store.moment halt is)
 
-wants_files : (context : RunContext) (files : Option Folder) (modules : Option (List ℕ)) (names : List (List ℕ)) (start : Job)
+wants_files : (context : RunContext) (files : Option Folder) (modules : Option (List ℕ)) (names : List (List ℕ))
+    (start : Job)
     (now : Moment) (halt : Halt)
     → halt ≡ record { message = OutOfMemory; status = NoMemory }
     → 1 ≤ length names
-    → GoesOn (texts_of context.texts) (bounds_of context.limits) files (files_front modules names start) now now (Err halt)
+    → GoesOn (texts_of context.texts) (bounds_of context.limits) files (files_front modules names start) now now
+    (Err halt)
 wants_files context files None [] start now halt is some = absurd (omega (arith, some))
 wants_files context files None (name ∷ names) start now halt is some =
     λ last more next. wants_file context files Script name (begun start) now halt is last (names ++ more)
@@ -270,7 +274,8 @@ wants_files context files (Some modules) names start now halt is some =
     λ last more next. wants_file context files Modules modules start now halt is last (names ++ more)
     (λ read. scripts_plan names read next)
 
-pub wanting_files : (context : RunContext) (modules : Option (List ℕ)) (names : List (List ℕ)) (start : Job) (store : Shown)
+pub wanting_files : (context : RunContext) (modules : Option (List ℕ)) (names : List (List ℕ)) (start : Job)
+    (store : Shown)
     (out : Taken) (result : Result Job Halt)
     → IsErrAnd result (λ halt. halt ≡ record { message = OutOfMemory; status = NoMemory })
     → 1 ≤ length names → FrontRead context (files_front modules names start) store store out out result
@@ -280,14 +285,16 @@ wanting_files context modules names start store out (Err halt) is some =
     (wants_files context store.files modules names start store.moment halt is some)
 
 -- a file that was read to its end, and one that wasn't
-pub file_passed : (context : RunContext) (kind : InputKind) (name : List ℕ) (start job : Job) {has_taken : List (List ℕ) → Type 0}
+pub file_passed : (context : RunContext) (kind : InputKind) (name : List ℕ)
+    (start job : Job) {has_taken : List (List ℕ) → Type 0}
     (before now : Shown) (old new : Taken)
     → ReadsTo context name (file_report kind start) has_taken before now old new (Ok tt)
     → ((taken : List (List ℕ)) → has_taken taken → job ≡ with_lines kind start taken)
     → FrontRead context (file_front kind name start) before now old new (Ok job)
 file_passed context kind name start job before now old new read said = record {
   goes_on =
-      leads_on (texts_of context.texts) (bounds_of context.limits) before.files kind name start job before.moment now.moment
+      leads_on (texts_of context.texts) (bounds_of context.limits) before.files kind name start job before.moment
+      now.moment
       read.end read.halts.0 read.read read.halts.1.0 (said read.halts.0 read.halts.1.1);
   silent = silent_end kind start read.end old.written new.written read.written;
   files = read.files;
@@ -295,7 +302,8 @@ file_passed context kind name start job before now old new read said = record {
   sound = read.sound;
 }
 
-pub file_stopped : (context : RunContext) (kind : InputKind) (name : List ℕ) (start : Job) {has_taken : List (List ℕ) → Type 0}
+pub file_stopped : (context : RunContext) (kind : InputKind) (name : List ℕ)
+    (start : Job) {has_taken : List (List ℕ) → Type 0}
     (before now : Shown) (old new : Taken) (halt : Halt)
     → ReadsTo context name (file_report kind start) has_taken before now old new (Err halt)
     → FrontRead context (file_front kind name start) before now old new (Err halt)
@@ -344,7 +352,8 @@ front_behind context front left before mid now old between new result leads same
   goes_on =
       goes_behind (texts_of context.texts) (bounds_of context.limits) before.files front left before.moment mid.moment
       now.moment result leads
-      (subst (λ files. GoesOn (texts_of context.texts) (bounds_of context.limits) files left mid.moment now.moment result)
+      (subst (λ files. GoesOn (texts_of context.texts)
+      (bounds_of context.limits) files left mid.moment now.moment result)
       same read.goes_on);
   silent = read.silent ∙ silent;
   files = read.files ∙ same;
@@ -398,7 +407,8 @@ script_ends context name names start before now old new halt read = record {
 pub modules_then : (context : RunContext) (modules : Option (List ℕ)) (names : List (List ℕ)) (start job : Job)
     (before now : Shown) (old new : Taken)
     → FrontRead context (modules_front modules start) before now old new (Ok job)
-    → LeadsTo (texts_of context.texts) (bounds_of context.limits) before.files (files_front modules names start) before.moment
+    → LeadsTo (texts_of context.texts) (bounds_of context.limits) before.files
+    (files_front modules names start) before.moment
     (scripts_front names job) now.moment
 modules_then context None names start job before now old new read = record {
   runs = λ last more next. read.goes_on.runs last (names ++ more) (λ job. scripts_plan names job next);
@@ -428,7 +438,8 @@ pub modules_end : (context : RunContext) (modules : Option (List ℕ)) (names : 
     → FrontRead context (files_front modules names start) before now old new (Err halt)
 modules_end context modules names start before now old new halt read = record {
   goes_on =
-      modules_halt (texts_of context.texts) (bounds_of context.limits) before.files modules names start before.moment now.moment
+      modules_halt (texts_of context.texts) (bounds_of context.limits) before.files modules names start before.moment
+      now.moment
       halt read.goes_on;
   silent = read.silent;
   files = read.files;

@@ -16,8 +16,8 @@ use Rattle.heaprec_commands.specs.FilesPlan.{files_named, files_plan, job_in}
 use Rattle.heaprec_commands.specs.RecordWords.{Checks, RecordAsked, Records, Task, record_asked, trace_of}
 use Rattle.heaprec_commands.specs.Texts.{heaprec_texts}
 
--- what is done with the job that the files say: a text is written, which says nothing of their faults; or the trace that is
--- checked is read
+-- what is done with the job that the files say: a text is written, which says nothing of their
+-- faults; or the trace that is checked is read
 abbrev pub task_plan : List ℕ → Task → Job → Plan
 task_plan text (Records summary) job = Ends (Writes text)
 task_plan text (Checks trace) job = one_file trace (check_report job)
@@ -43,8 +43,9 @@ abbrev pub asked_answer : Bounds → ℕ → Folder → List ℕ → Option Reco
 asked_answer bounds limit folder text asking =
     task_answer heaprec_texts bounds folder (task_asked limit text asking)
 
--- the answer to words, over a folder of files, of which none may have more bytes, nor longer lines, than the bounds, and which
--- together may have so many events; this is the text of the recording, where there is one
+-- the answer to words, over a folder of files, of which none may have more bytes, nor longer lines,
+-- than the bounds, and which together may have so many events; this is the text of the recording,
+-- where there is one
 abbrev pub rec_answer : List (List ℕ) → Bounds → ℕ → Folder → List ℕ → Answer
 rec_answer words bounds limit folder text = asked_answer bounds limit folder text
     (record_asked words)

@@ -25,7 +25,8 @@ abbrev pub check_verdict : Option ℕ → Verdict
 check_verdict (Some events) = Writes (checked_text events)
 check_verdict None = Refuses not_a_recording
 
--- the lines of a trace: the first line with a fault is the first with which the lines so far are no front of a recording of the job
+-- the lines of a trace: the first line with a fault is the first with which the lines so far are no
+-- front of a recording of the job
 abbrev pub check_report : Job → Report
 check_report job = record {
   line_fault = λ earlier line.

@@ -12,8 +12,8 @@ pub record HasLimits (lines : LineReaderState) (limits : Limits) : Type 0 where
   pub input : lines.input ≡ limits.input
   pub line : lines.line_limit ≡ limits.line
 
--- a file of a kind, behind what gave this job, begins with the kind and the job that are handed in. For a script, one of the job's is
--- open
+-- a file of a kind, behind what gave this job, begins with the kind and the job that are handed in.
+-- For a script, one of the job's is open
 pub record BeginsWith (kind : InputKind) (job : Job) (given : InputKind) (held : Job) : Type 0 where
   pub kind_is : given ≡ kind
   pub job_is : held ≡ job

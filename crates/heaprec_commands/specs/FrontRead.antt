@@ -19,8 +19,8 @@ use Rattle.command_frame.specs.RunsTo.{Shown, Taken, shown, status_of, taken}
 use Rattle.command_frame.specs.Texts.{Texts, texts_of}
 use Rattle.record_scripts.specs.Job.{Job}
 
--- the first files of a run: their names, what is done with them and then with the job that they give, the job that those of a
--- folder give, and how many scripts it has
+-- the first files of a run: their names, what is done with them and then with the job that they
+-- give, the job that those of a folder give, and how many scripts it has
 pub record Front : Type 0 where
   pub names : List (List ℕ)
   pub plan : (Job → Plan) → Plan
@@ -36,8 +36,9 @@ read_to job = record {
   threads = length job.scripts;
 }
 
--- whatever a run comes to that begins with the second files, a run that begins with the first ones may come to; both give the
--- same job, and the store was called once for each file that only the first ones have
+-- whatever a run comes to that begins with the second files, a run that begins with the first ones
+-- may come to; both give the same job, and the store was called once for each file that only the
+-- first ones have
 pub record LeadsTo (texts : Texts) (bounds : Bounds) (files : Option Folder) (front : Front)
     (before : Moment) (left : Front) (now : Moment) : Type 0 where
   pub runs : (last : List ℕ) (names : List (List ℕ)) (next : Job → Plan)

@@ -15,8 +15,9 @@ use Rattle.heaprec_commands.specs.RecordWords.{RecordAsked, record_asked}
 use Rattle.heaprec_commands.specs.Run.{IsChecked, IsDone, IsRecordingOutput, IsRefused}
 use Rattle.heaprec_commands.specs.Texts.{heaprec_texts}
 
--- whatever failed: one answer that the words and the files allow was delivered. Where that answer is done, its output is a
--- recording, so that at status 4 standard output has gained a front of one; or it says of a trace that it is one
+-- whatever failed: one answer that the words and the files allow was delivered. Where that answer
+-- is done, its output is a recording, so that at status 4 standard output has gained a front of
+-- one; or it says of a trace that it is one
 pub record HasDelivered (bounds : Bounds) (limit : ℕ) (asking : Option RecordAsked)
     (before now : Outside) (status : ℕ)
     : Type 0 where
@@ -33,26 +34,30 @@ pub record HeaprecRan (bounds : Bounds) (limit : ℕ) (words : List (List ℕ)) 
   pub run : HasDelivered bounds limit (record_asked words) before now status
   -- no words at all take no memory: the status is 2, or 4 by its cause
   pub none : words ≡ [] → (status ≡ 2) ⊎ (status ≡ 4)
-  -- without a trace to check, the recording, at status 0: the order that the bytes written spell is an interleaving of the scripts,
-  -- and the bytes are the trace of the scripts in this order, and behind it the summary where the words ask for it. Where the store
-  -- tells its files, the scripts are what they say
+  -- without a trace to check, the recording, at status 0: the order that the bytes written spell is
+  -- an interleaving of the scripts, and the bytes are the trace of the scripts in this order, and
+  -- behind it the summary where the words ask for it. Where the store tells its files, the scripts
+  -- are what they say
   pub recorded : trace_asked (record_asked words) ≡ None → status ≡ 0
       → (output : List ℕ) × ((now.out.written ≡ append_known before.out.written output)
       × IsRecordingOutput IsRecorded limit before.store.files (record_asked words) output)
-  -- with one, at status 0: where the store tells its files, the order that the trace's bytes spell is an interleaving of the scripts,
-  -- the bytes are the trace of the scripts in this order, and what was written is the line with the number of its events
+  -- with one, at status 0: where the store tells its files, the order that the trace's bytes spell
+  -- is an interleaving of the scripts, the bytes are the trace of the scripts in this order, and
+  -- what was written is the line with the number of its events
   pub checked : (trace : List ℕ) → trace_asked (record_asked words) ≡ Some trace → status ≡ 0
       → (output : List ℕ) × ((now.out.written ≡ append_known before.out.written output)
       × IsChecked limit before.store.files (record_asked words) trace output)
-  -- and at status 1, where the store tells its files, and the modules file and the scripts have no fault: the trace's bytes are no
-  -- recording of the scripts in any order, and the message names the first line with which none of theirs goes on, or the end
+  -- and at status 1, where the store tells its files, and the modules file and the scripts have no
+  -- fault: the trace's bytes are no recording of the scripts in any order, and the message names
+  -- the first line with which none of theirs goes on, or the end
   pub refused : (trace : List ℕ) → trace_asked (record_asked words) ≡ Some trace → status ≡ 1
       → WhereTold before.store.files (λ folder.
       HaveNoFault bounds limit folder (record_asked words)
       → (message : List ℕ) × ((now.err.written ≡ append_known before.err.written message)
       × IsRefused folder trace (job_asked limit folder (record_asked words)) message))
-  -- the headline: over a store that tells its files, with no failed call and memory not wanting, output, message and status are the
-  -- defined ones, with a text that at status 0 is that of such an order, unless a trace was to be checked
+  -- the headline: over a store that tells its files, with no failed call and memory not wanting,
+  -- output, message and status are the defined ones, with a text that at status 0 is that of such
+  -- an order, unless a trace was to be checked
   pub defined : (folder : Folder) → before.store.files ≡ Some folder
       → ¬ StoreFaulted before now → ¬ OutFaulted before now → ¬ ErrFaulted before now → status ≢ 5
       → (text : List ℕ) × (Gives before now (rec_answer words bounds limit folder text) status
@@ -74,7 +79,7 @@ pub record HeaprecRan (bounds : Bounds) (limit : ℕ) (words : List (List ℕ)) 
       → status ≢ 4 → status ≢ 5 → status ≡ code
   -- unless the status is 0 or 4, nothing was written to standard output
   pub silent : status ≢ 0 → status ≢ 4 → now.out.written ≡ before.out.written
-  -- what every run promises: the files that were opened, what statuses 2, 3 and 5 say, and that no failed call of the store is
-  -- passed over in silence
+  -- what every run promises: the files that were opened, what statuses 2, 3 and 5 say, and that no
+  -- failed call of the store is passed over in silence
   pub ends : RunEnds heaprec_texts (record_asked words ≡ None) (names_asked (record_asked words))
       before now status

@@ -7,8 +7,8 @@ use Rattle.std.specs.Str.{bytes_eq}
 use Rattle.command_words.specs.TableApp.{Table}
 use Rattle.command_words.specs.WordsTaken.{files_in, flag_in, value_in, words_taken}
 
--- what is done with the scripts: they are recorded, with a summary behind the trace or without one; or a trace is checked
--- against them
+-- what is done with the scripts: they are recorded, with a summary behind the trace or without one;
+-- or a trace is checked against them
 pub data Task : Type 0 where
   Records : Bool → Task
   Checks : List ℕ → Task

@@ -18,9 +18,9 @@ abbrev pub recording_text : Bool → List ℕ → Job → List ℕ
 recording_text false order job = recorded job order
 recording_text true order job = recorded job order ++ rec_summary job.scripts order
 
--- the order that a text spells is an interleaving of the scripts: each of their events stands in it once, those of a thread in the
--- order of its script, and those of a reallocation side by side; the text is that of this order; and its figures are those of the scripts,
--- whichever order it is
+-- the order that a text spells is an interleaving of the scripts: each of their events stands in it
+-- once, those of a thread in the order of its script, and those of a reallocation side by side; the
+-- text is that of this order; and its figures are those of the scripts, whichever order it is
 pub record IsRecorded (summary : Bool) (job : Job) (text : List ℕ) : Type 0 where
   pub all : IsInterleaving job.scripts (spelled text)
   pub text_is : text ≡ recording_text summary (spelled text) job

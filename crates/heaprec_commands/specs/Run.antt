@@ -35,7 +35,8 @@ pub record IsFileOf (folder : Folder) (trace : List ℕ) (job : Job) (events : �
   pub recording : IsRecordingOf job bytes
   pub count : events ≡ length (spelled bytes)
 
--- the output is the line that says of how many events a trace is a recording. Where the files are told, it is one of what they say
+-- the output is the line that says of how many events a trace is a recording. Where the files are
+-- told, it is one of what they say
 pub record IsChecked (limit : ℕ) (files : Option Folder) (asking : Option RecordAsked)
     (trace output : List ℕ) : Type 0 where
   pub events : ℕ
@@ -73,8 +74,9 @@ abbrev pub IsDone : (may_write : Bool → Job → List ℕ → Type 0) → ℕ �
 IsDone may_write limit files asking output = IsDoneBy may_write limit files asking output
     (trace_asked asking)
 
--- the words were run, with some text as the recording. Where that is done, what was written early and what is yet to be delivered are together the
--- output of a run that is done; and where a trace was to be checked, status 1 tells of a fault before it, or refuses it
+-- the words were run, with some text as the recording. Where that is done, what was written early
+-- and what is yet to be delivered are together the output of a run that is done; and where a trace
+-- was to be checked, status 1 tells of a fault before it, or refuses it
 pub record WordsRecord (may_write : Bool → Job → List ℕ → Type 0) (bounds : Bounds) (limit : ℕ)
     (asking : Option RecordAsked) (before now : Shown) (old new : Taken) (answer : Answer) : Type
     0 where

@@ -27,7 +27,8 @@ length-with_commas [] = refl
 length-with_commas (d ∷ ds) = by (is_full_groups (length ds)) refl (length-with_commas ds)
   where
     by : (t : Bool) → is_full_groups (length ds) ≡ t → length (with_commas ds) ≡ length ds + (length ds - 1) / 3
-        → length (if t then d ∷ 44 ∷ with_commas ds else d ∷ with_commas ds) ≡ length (d ∷ ds) + (length (d ∷ ds) - 1) / 3
+        → length (if t then d ∷ 44 ∷ with_commas ds else d ∷ with_commas ds) ≡ length (d ∷ ds) +
+        (length (d ∷ ds) - 1) / 3
     by true e rest = let p = groups_true (length ds) e in omega (arith, rest, p.0, p.1)
     by false e rest = ⊎_elim
         (λ some. let other = groups_false (length ds) e some in omega (arith, rest, some, other))
@@ -83,7 +84,8 @@ next_comma : (ds : List ℕ) (i : ℕ) → i < length ds → is_full_groups (len
 unfolding with_commas
 next_comma ds i inside e = let last = rw add-one at e in rw (add-one, drop-cons ds i 0 inside, last)
 
--- how far a loop over the digits came: what is written, followed by the text of the digits that are left, is the whole text
+-- how far a loop over the digits came: what is written, followed by the text of the digits that are
+-- left, is the whole text
 pub record Written (text : List ℕ) (at i left : ℕ) (ds : List ℕ) : Type 0 where
   pub sized : length text ≡ 26
   pub count : left + i ≡ length ds

@@ -26,7 +26,7 @@ percent_of_parts whole rest =
     then Some (100 * digits_value 10 whole + fraction_value rest)
     else None
 
--- the hundredths of a percent that the text writes, where it is 1 to 3 digits, with or without a point and 1 or 2 digits
--- after them, and says at most 100 percent; and else no number
+-- the hundredths of a percent that the text writes, where it is 1 to 3 digits, with or without a
+-- point and 1 or 2 digits after them, and says at most 100 percent; and else no number
 unfoldable pub parsed_percent : List ℕ → Option ℕ
 parsed_percent text = percent_of_parts (take (whole_len text) text) (drop (whole_len text) text)

@@ -1,5 +1,6 @@
 -- The folder that files in memory make, and what an open of a name answers there.
-use Rattle.std.specs.Prelude.{◌≡◌, ℕ, ◌<◌, ◌≤◌, List, [], Option, None, Some, map, drop, length, slice_index_or, option_map}
+use Rattle.std.specs.Prelude.{◌≡◌, ℕ, ◌<◌, ◌≤◌, List, [], Option}
+use Rattle.std.specs.Prelude.{None, Some, map, drop, length, slice_index_or, option_map}
 use Rattle.std.specs.FinMap.{from_entries}
 use Rattle.hp_outside.specs.Folder.{Folder, file_of}
 use Rattle.hp_outside.specs.declared.sure_store.HeldFile.{HeldFile}

@@ -39,7 +39,8 @@ GivesLine passed rest new_passed new_rest line (Ok (Some span)) =
 GivesLine passed rest new_passed new_rest line (Ok None) = new_rest ≡ Some []
 GivesLine passed rest new_passed new_rest line (Err fault) = Unit {0}
 
--- bytes of a file that show neither its next line nor a fault: they hold no line feed, and are no more than a line and the file may have
+-- bytes of a file that show neither its next line nor a fault: they hold no line feed, and are no
+-- more than a line and the file may have
 abbrev pub IsUndecided : ℕ → ℕ → ℕ → List ℕ → Type 0
 IsUndecided input line passed kept =
     (position_or_len is_line_feed kept ≡ length kept) × (length kept ≤ line)

@@ -279,7 +279,8 @@ module _ (form : Form) (version kind : ℕ) (rest : List ℕ) where
 
   abbrev known_or_other : Bool → Result Content Malformed
   known_or_other t =
-      cond t (cond (field_ends rest) (reading_kind form version kind rest) (Err BadField)) (Ok (other_line (kind ∷ rest)))
+      cond t (cond (field_ends rest) (reading_kind form version kind rest) (Err BadField))
+      (Ok (other_line (kind ∷ rest)))
 
   kind_test : (t : Bool) → is_kind kind ≡ t → is_foreign form kind ≡ false → kind ≢ 35
       → Sides form version (kind ∷ rest) (known_or_other t)

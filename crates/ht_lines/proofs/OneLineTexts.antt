@@ -95,7 +95,8 @@ digits_one (suc k) n rest h = by (eqb (n / 16) 0) (digits_one k (n / 16) (digit_
 
     by : (t : Bool) → IsOneLine (digits_onto k 16 false (n / 16) (digit_glyph false (n % 16) ∷ rest))
         → IsOneLine
-        (cond t (digit_glyph false (n % 16) ∷ rest) (digits_onto k 16 false (n / 16) (digit_glyph false (n % 16) ∷ rest)))
+        (cond t (digit_glyph false (n % 16) ∷ rest)
+        (digits_onto k 16 false (n / 16) (digit_glyph false (n % 16) ∷ rest)))
     by true more = glyph
     by false more = more
 

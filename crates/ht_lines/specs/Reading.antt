@@ -76,7 +76,8 @@ instruction_from [] = Err MissingField
 instruction_from (ip ∷ []) = Err MissingField
 instruction_from (ip ∷ module_string ∷ frames) = Ok (instruction_line ip module_string frames)
 
--- an ip, the string of a module, and frames of three fields each, of which the first may be one field, its function alone
+-- an ip, the string of a module, and frames of three fields each, of which the first may be one
+-- field, its function alone
 unfoldable pub instruction_of : List (List ℕ) → Result Content Malformed
 instruction_of fs =
     if length fs == 0 || length fs % 3 == 1 then Err MissingField

@@ -266,7 +266,8 @@ passed-more buckets names text k at name got other were link =
         | inr past ↦ elim (cases_lt k j) [
           | inl beyond ↦ were.none j found (omega arith) there
           | inr here ↦
-              λ is. other (same_Some name found (sym got ∙ ap (λ (n : ℕ). slice_get names n) (omega arith) ∙ there) ∙ is)
+              λ is. other (same_Some name found (sym got ∙ ap (λ (n : ℕ). slice_get names n) (omega arith) ∙ there)
+              ∙ is)
         ]
       ];
     }

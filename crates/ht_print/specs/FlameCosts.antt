@@ -13,15 +13,16 @@ use Rattle.peak_costs.specs.PeakState.{PeakState}
 use Rattle.ht_print.specs.declared.flame.FlameCost.{FlameCost}
 use Rattle.ht_print.specs.declared.flame.FlameCost.TheVariants.{Allocations, Temporary, Leaked, Peak}
 
--- the cost of each stack: its allocations, its temporary allocations, the bytes that it has live at the end, or those at
--- the peak
+-- the cost of each stack: its allocations, its temporary allocations, the bytes that it has live at
+-- the end, or those at the peak
 abbrev pub flame_costs : FlameCost → PeakState → List ℕ
 flame_costs Allocations peaks = map (λ (f : Figures). f.calls) peaks.ledger.figures
 flame_costs Temporary peaks = map (λ (f : Figures). f.temporary) peaks.ledger.figures
 flame_costs Leaked peaks = map (λ (f : Figures). f.live) peaks.ledger.figures
 flame_costs Peak peaks = peaks.shares
 
--- what a stack costs in a trace of these events; the peak is at the first number of events after which the total is greatest
+-- what a stack costs in a trace of these events; the peak is at the first number of events after
+-- which the total is greatest
 abbrev pub cost_in : FlameCost → List Event → ℕ → ℕ
 cost_in Allocations events stack = calls_in stack events
 cost_in Temporary events stack = temporary_in stack events

@@ -36,7 +36,8 @@ pub record HasLine (tree : TreeState) (n : ℕ) : Type 0 where
   pub within : n < length tree.nodes
   pub own : own_at tree n ≢ 0
 
--- the lines of nodes; those of the new ones are those of the old ones and that of node n; and they have lines where the old ones do
+-- the lines of nodes; those of the new ones are those of the old ones and that of node n; and they
+-- have lines where the old ones do
 abbrev pub lines_at : TreeState → List ℕ → List ℕ
 lines_at tree nodes = flat_map (line_at tree) nodes
 

@@ -24,7 +24,8 @@ unfoldable pub stacks_numbered : Places → ℕ → List Entry → List Entry
 stacks_numbered places number stacks = filter (λ entry. number_at places entry.stack == number)
     stacks
 
--- of the first so many stacks the last whose place has the number is the one at `at`, from 1 on; there is none where that is 0
+-- of the first so many stacks the last whose place has the number is the one at `at`, from 1 on;
+-- there is none where that is 0
 pub record IsLast (places : Places) (stacks : List Entry) (number upto at : ℕ) : Type 0 where
   pub within : at ≤ upto
   pub has : (k : ℕ) (entry : Entry) → at ≡ k + 1 → slice_get stacks k ≡ Some entry

@@ -59,7 +59,8 @@ unfoldable pub suppressed_line : ℕ → List ℕ
 suppressed_line bytes = if bytes == 0 then []
     else codes "suppressed: " ++ (decimal bytes ++ codes " bytes\n")
 
--- what stands below the heading of a section: where suppressed stacks are left out, they are told in one line behind the others
+-- what stands below the heading of a section: where suppressed stacks are left out, they are told
+-- in one line behind the others
 unfoldable pub section_body : PrintOptions → TableState → Section → List ℕ → List ℕ
 section_body options tables section figures =
     if leaves_out section

@@ -60,26 +60,38 @@ AreInstructions-push frames more entries entry are start count few = record {
 }
 
 -- a part of the texts stays the same when more are appended
-text-same : (bytes more : List ℕ) (span : TextSpan) → span.start + span.len ≤ length bytes → text_of (bytes ++ more) span ≡ text_of bytes span
+text-same : (bytes more : List ℕ) (span : TextSpan) → span.start + span.len ≤ length bytes
+    → text_of (bytes ++ more) span ≡ text_of bytes span
 text-same bytes more span within =
     let front = drop-append-le span.start bytes more (omega arith) in
     let part = take-append-le span.len (drop span.start bytes) more (omega (arith, length-drop span.start bytes)) in
     ap (take span.len) front ∙ part
 
 -- the strings stay when bytes are appended
-pub texts-stay : (bytes more : List ℕ) (spans : List TextSpan) → AreStrings bytes spans → texts_of (bytes ++ more) spans ≡ texts_of bytes spans
-texts-stay bytes more spans are = map-agree (λ (span : TextSpan). span.start + span.len ≤ length bytes) (text_of (bytes ++ more)) (text_of bytes) (text-same bytes more) spans are.within
+pub texts-stay : (bytes more : List ℕ) (spans : List TextSpan) → AreStrings bytes spans
+    → texts_of (bytes ++ more) spans ≡ texts_of bytes spans
+texts-stay bytes more spans are =
+    map-agree (λ (span : TextSpan). span.start + span.len ≤ length bytes) (text_of (bytes ++ more)) (text_of bytes)
+    (text-same bytes more) spans are.within
 
 -- the strings with one more, whose text is appended
-pub texts-push : (bytes text : List ℕ) (spans : List TextSpan) (span : TextSpan) → AreStrings bytes spans → span.start ≡ length bytes → span.len ≡ length text → texts_of (bytes ++ text) (spans ++ span ∷ []) ≡ texts_of bytes spans ++ text ∷ []
+pub texts-push : (bytes text : List ℕ) (spans : List TextSpan) (span : TextSpan) → AreStrings bytes spans
+    → span.start ≡ length bytes → span.len ≡ length text → texts_of (bytes ++ text)
+    (spans ++ span ∷ []) ≡ texts_of bytes spans ++ text ∷ []
 texts-push bytes text spans span are start len =
-    let own : take span.len (drop span.start (bytes ++ text)) ≡ text = rw (len, start, drop-append_seam bytes text) (take-length text) in
+    let own : take span.len (drop span.start (bytes ++ text)) ≡ text = rw (len, start, drop-append_seam bytes text)
+    (take-length text) in
     map-append (text_of (bytes ++ text)) spans (span ∷ [])
     ∙ ap (λ (texts : List (List ℕ)). texts ++ text_of (bytes ++ text) span ∷ []) (texts-stay bytes text spans are)
     ∙ ap (λ (own : List ℕ). texts_of bytes spans ++ own ∷ []) own
 
-pub AreStrings-push : (bytes text : List ℕ) (spans : List TextSpan) (span : TextSpan) → AreStrings bytes spans → span.start ≡ length bytes → span.len ≡ length text → length spans < 2 ^ 32 - 1 → AreStrings (bytes ++ text) (spans ++ span ∷ [])
+pub AreStrings-push : (bytes text : List ℕ) (spans : List TextSpan) (span : TextSpan) → AreStrings bytes spans
+    → span.start ≡ length bytes → span.len ≡ length text → length spans < 2 ^ 32 - 1 → AreStrings (bytes ++ text)
+    (spans ++ span ∷ [])
 AreStrings-push bytes text spans span are start len few = record {
-  within = all-push (λ (s : TextSpan). s.start + s.len ≤ length (bytes ++ text)) spans span (all-weaker (λ (s : TextSpan). s.start + s.len ≤ length bytes) (λ (s : TextSpan). s.start + s.len ≤ length (bytes ++ text)) (λ s within. omega (arith, length-append bytes text)) spans are.within) (omega (arith, length-append bytes text));
+  within = all-push (λ (s : TextSpan). s.start + s.len ≤ length (bytes ++ text)) spans span
+      (all-weaker (λ (s : TextSpan). s.start + s.len ≤ length bytes)
+      (λ (s : TextSpan). s.start + s.len ≤ length (bytes ++ text))
+      (λ s within. omega (arith, length-append bytes text)) spans are.within) (omega (arith, length-append bytes text));
   few = omega (arith, length-append spans (span ∷ []));
 }

@@ -63,9 +63,11 @@ passes-line tables line said event versioned says takes =
           ap (reading_step (infos (contents lines))) (says (file_version lines))
           ∙ ap (λ (held : List HeldInfo). step_in held said) same ∙ sym takes.step_is;
       stands =
-          λ given lines stands. stands-push tables tables said (step.Event event) line may read takes given lines stands;
+          λ given lines stands. stands-push tables tables said
+          (step.Event event) line may read takes given lines stands;
       events =
-          λ given lines stands. events-push tables tables said (step.Event event) line may read takes given lines stands;
+          λ given lines stands. events-push tables tables said
+          (step.Event event) line may read takes given lines stands;
     }
 
 -- before it there is no info

@@ -1,4 +1,5 @@
--- What the crates above may cite: a list without its repeats, as it grows. Elements are the same where their keys are equal.
+-- What the crates above may cite: a list without its repeats, as it grows. Elements are the same
+-- where their keys are equal.
 use Rattle.std.proofs.Common.{◌≡◌, Bool, true, false, not, cond, ◌||◌, List, [], ◌∷◌, ◌++◌, filter, refl, sym, ap, ◌∙◌}
 use Rattle.std.proofs.Common.{true≢false, append-nil}
 use Rattle.std.specs.Bool.{Decides}

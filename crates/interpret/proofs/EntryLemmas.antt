@@ -340,7 +340,8 @@ indexed-push entries index new y indexed more none here others = record {
         ]
 
     only : (number start k : ℕ) → place_at new number start ≡ Some k
-        → (x : SymbolEntry) × (slice_get (entries ++ y ∷ []) k ≡ Some x) × (x.module_number ≡ number) × (x.start ≡ start)
+        → (x : SymbolEntry) × (slice_get (entries ++ y ∷ []) k ≡ Some x) × (x.module_number ≡ number) ×
+        (x.start ≡ start)
     only number start k at =
         elim (cases_eq number y.module_number) [
           | inl of ↦ elim (cases_eq start y.start) [

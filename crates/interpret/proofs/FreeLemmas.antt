@@ -190,7 +190,8 @@ fine-same symbols said c none same fine =
     ∙ append-nil (interpreted_events symbols said)) in
     record {
       each =
-          subst (λ (l : List AllocationInfo). AllByRecursion (IsNumbered l) (interpreted_events symbols (said ++ c ∷ [])))
+          subst (λ (l : List AllocationInfo). AllByRecursion (IsNumbered l)
+          (interpreted_events symbols (said ++ c ∷ [])))
           (sym same) (subst (λ (l : List Event). AllByRecursion (IsNumbered (infos said)) l) (sym now) fine.each);
       no_fault = ap (λ (l : List Event). gathered free_fault [] l) now ∙ fine.no_fault;
     }

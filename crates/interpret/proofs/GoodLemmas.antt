@@ -482,7 +482,8 @@ suppression-good version told said bytes is few =
     by (pattern_of bytes) (ap length (patterns-append said (suppression_line bytes ∷ [])))
   where
     by : (o : Option (List ℕ))
-        → length (lists.patterns (said ++ suppression_line bytes ∷ [])) ≡ length (lists.patterns said ++ cons_option o [])
+        → length (lists.patterns (said ++ suppression_line bytes ∷ [])) ≡ length
+        (lists.patterns said ++ cons_option o [])
         → cond {A = Option LineError} (is_some o) (growth_fault (length (lists.patterns told)) most_entries) None ≡ None
     by None count = refl
     by (Some pattern) count =

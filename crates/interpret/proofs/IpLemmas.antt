@@ -53,7 +53,8 @@ ip-stays held more n ip is = by (n == 0) is
   where
     by : (b : Bool)
         → cond {A = Option ℕ} b (Some 0) (option_map (λ (k : KnownIp). k.ip) (slice_get held (n - 1))) ≡ Some ip
-        → cond {A = Option ℕ} b (Some 0) (option_map (λ (k : KnownIp). k.ip) (slice_get (held ++ more) (n - 1))) ≡ Some ip
+        → cond {A = Option ℕ} b (Some 0) (option_map (λ (k : KnownIp). k.ip) (slice_get (held ++ more) (n - 1))) ≡ Some
+        ip
     by true is = is
     by false is = entry-stays held more (n - 1) ip is
 

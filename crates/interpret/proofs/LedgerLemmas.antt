@@ -163,7 +163,8 @@ stays-held held info other there = by (list_any (same_info info) held)
     by : (b : Bool) → list_any (same_info other) (cond b held (held ++ info ∷ [])) ≡ true
     by true = there
     by false =
-        list_any-append (same_info other) held (info ∷ []) ∙ ap (λ (b : Bool). b || (same_info other info || false)) there
+        list_any-append (same_info other) held (info ∷ []) ∙ ap
+        (λ (b : Bool). b || (same_info other info || false)) there
 
 -- what an event counts for, by the block that it allocates or frees
 pub record CountsAllocs (f : Event → ℕ) (w : RawBlock → ℕ) : Type 0 where
@@ -287,7 +288,8 @@ alloc-adds symbols said size trace ptr are =
     let event = alloc-event symbols said size trace ptr are in
     record {
       more_infos =
-          infos-append (map info_said more) (allocation_line number ∷ []) ∙ append-nil (lists.infos (map info_said more))
+          infos-append (map info_said more) (allocation_line number ∷ []) ∙ append-nil
+          (lists.infos (map info_said more))
           ∙ infos-of more;
       allocs =
           λ f w counts. ap (λ (l : List Event). sum_by f l) event ∙ one-event f (Alloc number trace size)

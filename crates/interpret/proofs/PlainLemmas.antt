@@ -1,4 +1,5 @@
--- A raw trace that is interpreted without symbols: each instruction has one frame, so that no stack is deeper than its nodes are.
+-- A raw trace that is interpreted without symbols: each instruction has one frame, so that no stack
+-- is deeper than its nodes are.
 use Rattle.std.proofs.Common.{◌≡◌, ℕ, ◌+◌, ◌<◌, ◌≤◌, ◌==◌, ◌||◌, ◌⊎◌, inl, inr, append_assoc, Bool, true, false, cond}
 use Rattle.std.proofs.Common.{List, [], ◌∷◌, ◌++◌, length, map, reverse, max, Option, Some, None, refl, sym, ap, ap₂}
 use Rattle.std.proofs.Common.{◌∙◌, arith, append-nil, length-append, subst}
@@ -88,7 +89,8 @@ call-names tables ip = by (ip == 0 || list_any (λ (k : KnownIp). ip == k.ip) ta
 
     by : (b : Bool)
         → length
-        (flat_map names_called (option_to_list (cond {A = Option Resolved} b None (Some (resolved [] tables.loaded ip)))))
+        (flat_map names_called (option_to_list (cond {A = Option Resolved} b None
+        (Some (resolved [] tables.loaded ip)))))
         ≤ length
         (map known_of (option_to_list (cond {A = Option Resolved} b None (Some (resolved [] tables.loaded ip)))))
     by true = omega arith
@@ -99,7 +101,8 @@ call-few : (tables : RawTables) (ip : ℕ) → length (map known_of (option_to_l
 call-few tables ip = by (ip == 0 || list_any (λ (k : KnownIp). ip == k.ip) tables.known)
   where
     by : (b : Bool)
-        → length (map known_of (option_to_list (cond {A = Option Resolved} b None (Some (resolved [] tables.loaded ip)))))
+        → length (map known_of (option_to_list (cond {A = Option Resolved} b None
+        (Some (resolved [] tables.loaded ip)))))
         ≤ 1
     by true = omega arith
     by false = omega arith

@@ -216,10 +216,12 @@ held-after-alloc said size trace named are =
           λ p q x y other one two. apart_of p q x y other (alloc-case said size trace named p x one)
           (alloc-case said size trace named q y two);
       freed_below =
-          subst (λ (l : List RawBlock). AllByRecursion (λ (x : RawBlock). x.place < length (said ++ c ∷ [])) l) (sym gone)
+          subst (λ (l : List RawBlock). AllByRecursion (λ (x : RawBlock). x.place < length (said ++ c ∷ [])) l)
+          (sym gone)
           (below-more (freed said) (length said) (length (said ++ c ∷ [])) (omega (arith, count)) are.freed_below);
       blocks_below =
-          subst (λ (l : List RawBlock). AllByRecursion (λ (x : RawBlock). x.place < length (said ++ c ∷ [])) l) (sym all)
+          subst (λ (l : List RawBlock). AllByRecursion (λ (x : RawBlock). x.place < length (said ++ c ∷ [])) l)
+          (sym all)
           (all-push (λ (x : RawBlock). x.place < length (said ++ c ∷ [])) (blocks said) new
           (below-more (blocks said) (length said) (length (said ++ c ∷ [])) (omega (arith, count)) are.blocks_below)
           (omega (arith, count)));
@@ -279,16 +281,19 @@ held-after-same said c old all gone are =
     let count : length (said ++ c ∷ []) ≡ length said + 1 = length-append said (c ∷ []) in
     record {
       once =
-          λ ptr block is. subst (λ (l : List RawBlock). IsOnce block l) (sym all) (are.once ptr block (old ptr block is));
+          λ ptr block is. subst (λ (l : List RawBlock). IsOnce block l) (sym all)
+          (are.once ptr block (old ptr block is));
       unfreed =
           λ ptr block is. ap (λ (l : List RawBlock). is_freed l block) gone ∙ are.unfreed ptr block (old ptr block is);
       below = λ ptr block is. let here = are.below ptr block (old ptr block is) in omega (arith, count, here);
       apart = λ p q x y other one two. are.apart p q x y other (old p x one) (old q y two);
       freed_below =
-          subst (λ (l : List RawBlock). AllByRecursion (λ (x : RawBlock). x.place < length (said ++ c ∷ [])) l) (sym gone)
+          subst (λ (l : List RawBlock). AllByRecursion (λ (x : RawBlock). x.place < length (said ++ c ∷ [])) l)
+          (sym gone)
           (below-more (freed said) (length said) (length (said ++ c ∷ [])) (omega (arith, count)) are.freed_below);
       blocks_below =
-          subst (λ (l : List RawBlock). AllByRecursion (λ (x : RawBlock). x.place < length (said ++ c ∷ [])) l) (sym all)
+          subst (λ (l : List RawBlock). AllByRecursion (λ (x : RawBlock). x.place < length (said ++ c ∷ [])) l)
+          (sym all)
           (below-more (blocks said) (length said) (length (said ++ c ∷ [])) (omega (arith, count)) are.blocks_below);
       balance = λ w.
           let a =
@@ -326,12 +331,14 @@ held-after-freed said named block here are =
           λ p q x y other one two. are.apart p q x y other (free-case said named p x one).1
           (free-case said named q y two).1;
       freed_below =
-          subst (λ (l : List RawBlock). AllByRecursion (λ (x : RawBlock). x.place < length (said ++ c ∷ [])) l) (sym gone)
+          subst (λ (l : List RawBlock). AllByRecursion (λ (x : RawBlock). x.place < length (said ++ c ∷ [])) l)
+          (sym gone)
           (all-push (λ (x : RawBlock). x.place < length (said ++ c ∷ [])) (freed said) block
           (below-more (freed said) (length said) (length (said ++ c ∷ [])) (omega (arith, count)) are.freed_below)
           (omega (arith, count, below)));
       blocks_below =
-          subst (λ (l : List RawBlock). AllByRecursion (λ (x : RawBlock). x.place < length (said ++ c ∷ [])) l) (sym all)
+          subst (λ (l : List RawBlock). AllByRecursion (λ (x : RawBlock). x.place < length (said ++ c ∷ [])) l)
+          (sym all)
           (below-more (blocks said) (length said) (length (said ++ c ∷ [])) (omega (arith, count)) are.blocks_below);
       balance = λ w.
           let a =

@@ -71,7 +71,8 @@ frames-again (function ∷ more) count is = by (length more % 3 == 0) refl is
         → length (cond b (without_file function ∷ triples more) (triples (function ∷ more))) ≡ max 1 count
     by true e (inl is) = let divided = eqb-true (length more % 3) 0 e in absurd (omega (arith, divided, is))
     by true e (inr is) =
-        let rest = triples-count more in let divided = eqb-true (length more % 3) 0 e in omega (arith, rest, divided, is)
+        let rest = triples-count more in let divided = eqb-true (length more % 3) 0 e in omega
+        (arith, rest, divided, is)
     by false e (inl is) = let rest = triples-count (function ∷ more) in omega (arith, rest, is)
     by false e (inr is) =
         let divided : length more % 3 ≡ 0 =

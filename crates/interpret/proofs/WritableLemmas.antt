@@ -164,7 +164,8 @@ called-all P symbols loaded ip texts names = by (module_of loaded ip) refl
   where
     by : (o : Option LoadedModule) → module_of loaded ip ≡ o
         → AllByRecursion P
-        (option_to_list (resolved_in symbols o ip).module_name ++ flat_map frame_names (resolved_in symbols o ip).frames)
+        (option_to_list (resolved_in symbols o ip).module_name ++ flat_map frame_names
+        (resolved_in symbols o ip).frames)
     by None is = tt
     by (Some m) is = (
       find-all (λ (m : LoadedModule). P m.name) (holds_address ip) (reverse loaded) m

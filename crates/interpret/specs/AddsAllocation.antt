@@ -10,7 +10,8 @@ use Rattle.interpret.specs.FirstAppearances.{new_fault, with_new}
 use Rattle.interpret.specs.Interpreted.{info_said, new_in}
 use Rattle.interpret.specs.RawTables.{info_number, same_info}
 
--- its info is added where it is new; the line of a new one and that of the allocation stand at the end of what is written
+-- its info is added where it is new; the line of a new one and that of the allocation stand at the
+-- end of what is written
 pub record AddsAllocation (version : ℕ) (info : AllocationInfo) (old new : List AllocationInfo)
     (before after : Vec ℕ) (result : Result ℕ LineError) : Type 0 where
   pub added : OnOk result (new ≡ with_new same_info old info)

@@ -76,8 +76,8 @@ new_node_fault names ips nodes node = grown_fault nodes node
     (names_with names (Some (found_at node))) (known_with ips (Some (found_at node)))
     (nodes ++ new_node ips node ∷ [])
 
--- it is added with its instruction and the names that this calls for. After a want of memory or a full table some of them may
--- have been, and after every other error nothing was
+-- it is added with its instruction and the names that this calls for. After a want of memory or a
+-- full table some of them may have been, and after every other error nothing was
 pub record AddsNewNode (node : NewNode) (old_names : List (List ℕ)) (old_ips : List KnownIp)
     (old_nodes : List Node) (names : List (List ℕ)) (ips : List KnownIp) (nodes : List Node)
     (result : Result (Unit {0}) LineError) : Type 0 where

@@ -29,8 +29,9 @@ info_said info = info_line info.size info.trace
 abbrev pub free_said : Option ℕ → List Content
 free_said freed = map free_line (option_to_list freed)
 
--- what the interpreted lines of a raw line say, with the tables before it and after it and the info of the block that it
--- frees: first what is new in the tables. A line that is passed on as it is gives nothing here
+-- what the interpreted lines of a raw line say, with the tables before it and after it and the info
+-- of the block that it frees: first what is new in the tables. A line that is passed on as it is
+-- gives nothing here
 abbrev pub said_for : List Symbol → RawTables → RawTables → Option ℕ → Content → List Content
 said_for symbols before after freed (node_line ip parent) =
     map string_line (new_in before.names after.names)

@@ -18,8 +18,8 @@ use Rattle.interpret.specs.RawFault.{raw_fault}
 use Rattle.interpret.specs.RawTables.{KnownIp, RawTables, info_number, tables_of}
 use Rattle.interpret.specs.SymbolLine.{Symbol}
 
--- the symbols that are looked up, the file version where there was one, the tables, an info for each pointer that stands
--- for a block, and the fault after which no line is taken
+-- the symbols that are looked up, the file version where there was one, the tables, an info for
+-- each pointer that stands for a block, and the fault after which no line is taken
 pub record InterpreterState : Type 0 where
   pub symbols : List Symbol
   pub version : Option ℕ
@@ -56,8 +56,8 @@ pub record PointsAs (pointers : List (ℕ × ℕ)) (infos : List AllocationInfo)
   pub info : (ptr : ℕ) → info_at pointers ptr ≡ freed_info infos (held said ptr)
   pub within : (ptr : ℕ) → IfSome (info_at pointers ptr) (λ n. n < length infos)
 
--- the tables and pointers are those of lines with these symbols, of which none has a fault after those before it; so long
--- as none is a version line, each may stand before one
+-- the tables and pointers are those of lines with these symbols, of which none has a fault after
+-- those before it; so long as none is a version line, each may stand before one
 pub record StandsFor (state : InterpreterState) (symbols : List Symbol)
     (lines : List (List ℕ)) : Type 0 where
   pub symbols_are : state.symbols ≡ symbols

@@ -20,8 +20,8 @@ pub record AddsLine (old new : InterpreterState) (line before after : List ℕ) 
   pub ledger : OfItsLines old (λ symbols lines.
       KeepsLedger symbols (contents (lines ++ line ∷ [])))
 
--- the error is the fault of the line, unless memory was wanting. After a want of memory and a full table it stays, and after
--- every other error the interpreter is as it was
+-- the error is the fault of the line, unless memory was wanting. After a want of memory and a full
+-- table it stays, and after every other error the interpreter is as it was
 pub record RefusesLine (old new : InterpreterState) (line : List ℕ) (error : LineError) : Type
     0 where
   pub fault : OfItsLines old (λ symbols lines. Tells error (raw_fault symbols lines line))

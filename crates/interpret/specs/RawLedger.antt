@@ -40,8 +40,8 @@ is_of node block = block.info.trace == node
 abbrev pub bytes_of : ℕ → RawBlock → ℕ
 bytes_of node block = if block.info.trace == node then block.info.size else 0
 
--- at every node the interpreted lines leave the bytes and the blocks live that the raw ones do, and its instruction pointers
--- outwards are the same
+-- at every node the interpreted lines leave the bytes and the blocks live that the raw ones do, and
+-- its instruction pointers outwards are the same
 pub record KeepsLedger (symbols : List Symbol) (said : List Content) : Type 0 where
   pub bytes : (node : ℕ)
       → live_in node (interpreted_events symbols said) ≡ sum_by (bytes_of node) (live_blocks said)

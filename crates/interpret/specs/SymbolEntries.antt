@@ -81,8 +81,8 @@ pub record AreNamed (names : List (List ℕ)) (entries : List SymbolEntry) : Typ
   pub within : (k : ℕ) (x : SymbolEntry) → slice_get entries k ≡ Some x
       → x.module_number ≤ length names
 
--- the entries are apart, with ranges that aren't empty, and the index has the place of each under its module and start, and
--- nothing else
+-- the entries are apart, with ranges that aren't empty, and the index has the place of each under
+-- its module and start, and nothing else
 pub record AreIndexed (entries : List SymbolEntry) (index : StartIndex) : Type 0 where
   pub some : (k : ℕ) (x : SymbolEntry) → slice_get entries k ≡ Some x → x.start < x.end
   pub apart : (j k : ℕ) (x y : SymbolEntry) → slice_get entries j ≡ Some x

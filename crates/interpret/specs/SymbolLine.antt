@@ -16,8 +16,8 @@ is_tab b = b == 9
 unfoldable pub fields : List ℕ → List (List ℕ)
 fields line = slice_split is_tab line
 
--- the range from `start` up to `end`, which is outside, of the module with this name. The texts are a function alone, or a
--- function, a file and a line number for each frame from the innermost on
+-- the range from `start` up to `end`, which is outside, of the module with this name. The texts are
+-- a function alone, or a function, a file and a line number for each frame from the innermost on
 pub record Symbol : Type 0 where
   pub module_name : List ℕ
   pub start : ℕ

@@ -78,7 +78,8 @@ pub record HasRead (old new : InterpreterState) (line : List ℕ) (before after 
   pub raw : IsRaw said
   pub takes : Takes old new line said before after
 
--- the error is the fault of the line, unless memory was wanting; only a want of memory and a full table may change anything
+-- the error is the fault of the line, unless memory was wanting; only a want of memory and a full
+-- table may change anything
 pub record HasRefused (old new : InterpreterState) (line : List ℕ) (error : LineError) : Type
     0 where
   pub fault : Tells error (fault_in old.symbols old.version old.tables line)

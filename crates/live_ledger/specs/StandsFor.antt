@@ -35,8 +35,8 @@ pub record AreFiguresOf (figures : Figures) (stack : ℕ) (events : List Event) 
   pub live_and_freed : figures.live + freed_in stack events ≡ allocated_in stack events
   pub blocks_and_frees : figures.blocks + frees_in stack events ≡ calls_in stack events
 
--- the events are of held infos and have no fault, and the totals, each info's blocks and the last event are those of the
--- list of events
+-- the events are of held infos and have no fault, and the totals, each info's blocks and the last
+-- event are those of the list of events
 pub record HasTotals (state : LedgerState) (events : List Event) : Type 0 where
   pub held : AreAmong state.infos events
   pub no_fault : HaveNoFault events

@@ -8,8 +8,8 @@ use Rattle.live_ledger.specs.LedgerState.{LedgerState}
 use Rattle.live_ledger.specs.Sound.{IsSound}
 use Rattle.live_ledger.specs.StandsFor.{StandsFor}
 
--- it has changed by the event, which had no fault, holds the same stacks and infos, and stands for each list of events that it
--- stood for with this one at its end
+-- it has changed by the event, which had no fault, holds the same stacks and infos, and stands for
+-- each list of events that it stood for with this one at its end
 pub record HasTaken (old new : LedgerState) (event : Event) : Type 0 where
   pub stands : (events : List Event) → StandsFor old events → StandsFor new (events ++ event ∷ [])
   pub changes : Changes old new event

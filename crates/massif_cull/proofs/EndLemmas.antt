@@ -1,4 +1,5 @@
--- An end of a list that goes whole: each removal of a cull takes one of it, and in whatever order they go, the same is left.
+-- An end of a list that goes whole: each removal of a cull takes one of it, and in whatever order
+-- they go, the same is left.
 use Rattle.std.proofs.Common.{◌≡◌, ◌⊎◌, ℕ, ◌+◌, ◌-◌, ◌^◌, ◌<◌, ◌≤◌, zero, suc, Bool, true, false, cond, List, [], ◌∷◌}
 use Rattle.std.proofs.Common.{length, map, inl, inr, refl, sym, ap, subst, ◌∙◌, arith}
 use Rattle.std.specs.Prelude.{if◌then◌else◌, remove, slice_index, Some}

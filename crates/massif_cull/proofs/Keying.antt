@@ -1,4 +1,5 @@
--- The keys of places while snapshots are culled: how they are given, which one comes first, and what is left after a removal.
+-- The keys of places while snapshots are culled: how they are given, which one comes first, and
+-- what is left after a removal.
 use Rattle.std.proofs.Common.{◌≡◌, ◌≢◌, ◌⊎◌, ℕ, ◌+◌, ◌-◌, ◌^◌, ◌<◌, ◌≤◌, zero, suc, Bool, true, false, List, [], ◌∷◌}
 use Rattle.std.proofs.Common.{◌++◌, length, map, take, set, get_or, inl, inr, refl, sym, ap, subst, ◌∙◌, arith}
 use Rattle.std.specs.Prelude.{remove, slice_get, slice_index, Some}

@@ -21,7 +21,8 @@ key_of entries snap_at = record {
   place = snap_at.place;
 }
 
--- each place of an entry has the entry's gap and a number that rises with the entries, and no other place is to be chosen
+-- each place of an entry has the entry's gap and a number that rises with the entries, and no other
+-- place is to be chosen
 pub record AreKeyed (places : List ℕ) (entries : List SnapEntry) (keys : List Key) : Type 0 where
   pub beside : length places ≡ length entries
   pub different : AreDifferent places

@@ -385,7 +385,8 @@ module _ (lines : List (List ℕ)) (line : List ℕ) where
   step_tree : (profile : Profile) (snap : Snap) (to_come : List ℕ) (t : Bool)
       → Stands lines (in_tree profile snap to_come) → ltb 257 (length to_come) ≡ t
       → Stands all
-      (cond t (refused_for BadTree) (go_on (after_tree_line profile snap to_come) (or_fault BadTree (tree_line_of line))))
+      (cond t (refused_for BadTree) (go_on (after_tree_line profile snap to_come)
+      (or_fault BadTree (tree_line_of line))))
   step_tree profile snap to_come true h q = tt
   step_tree profile snap to_come false h q =
       step_node profile snap to_come (tree_line_of line) h (ltb-false 257 (length to_come) q) refl

@@ -1,5 +1,6 @@
--- What any lines are: they are a profile or have a fault, one alone, and not both. What is read of lines that a reader took is what
--- it gives at their end; what is read of texts without line feeds may be written.
+-- What any lines are: they are a profile or have a fault, one alone, and not both. What is read of
+-- lines that a reader took is what it gives at their end; what is read of texts without line feeds
+-- may be written.
 use Rattle.std.specs.Prelude.{◌≡◌, ◌⊎◌, ◌↔◌, ℕ, ◌+◌, List, length, Ok, Err}
 use Rattle.massif_file.specs.declared.fault.ProfileFault.{ProfileFault}
 use Rattle.massif_file.specs.declared.profile.Profile.{Profile}

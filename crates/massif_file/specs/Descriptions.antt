@@ -8,7 +8,8 @@ joined desc [] = desc
 joined [] (b ∷ bs) = b ∷ bs
 joined (d ∷ ds) (b ∷ bs) = (d ∷ ds) ++ (32 ∷ b ∷ bs)
 
--- the lines are descriptions, which make this description together: their values, without the empty ones, joined by one blank
+-- the lines are descriptions, which make this description together: their values, without the empty
+-- ones, joined by one blank
 abbrev pub Describe : List ℕ → List (List ℕ) → List ℕ → Type 0
 Describe before [] desc = before ≡ desc
 Describe before (line ∷ lines) desc = (value : List ℕ)

@@ -3,7 +3,8 @@ use Rattle.std.specs.Prelude.{◌≡◌, ℕ, ◌<◌, ◌≤◌, List, [], ◌�
 use Rattle.massif_file.specs.TreeLine.{TreeLine}
 use Rattle.massif_file.specs.Levels.{after_line}
 
--- The lines lead from what is to come before them to what is to come after them. Each is awaited, and none stands above level 256.
+-- The lines lead from what is to come before them to what is to come after them. Each is awaited,
+-- and none stands above level 256.
 abbrev pub Leads : List ℕ → List TreeLine → List ℕ → Type 0
 Leads before [] after = before ≡ after
 Leads before (line ∷ lines) after = (0 < length before) × (length before ≤ 257)

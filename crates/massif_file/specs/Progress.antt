@@ -17,7 +17,8 @@ use Rattle.massif_file.specs.LastTime.{last_time}
 use Rattle.massif_file.specs.Levels.{after_line}
 use Rattle.massif_file.specs.TreeLineOf.{tree_line_of}
 
--- The header's texts so far; the header and the whole snapshots so far, with the first lines of the next; or why a line is refused.
+-- The header's texts so far; the header and the whole snapshots so far, with the first lines of the
+-- next; or why a line is refused.
 pub data Progress : Type 0 where
   in_descriptions : (desc : List ℕ) → Progress
   at_unit : (desc cmd : List ℕ) → Progress

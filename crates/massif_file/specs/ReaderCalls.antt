@@ -1,4 +1,5 @@
--- What the calls of the reader do: a line is taken or refused, and at the end the profile is given or lent, which is that of all lines.
+-- What the calls of the reader do: a line is taken or refused, and at the end the profile is given
+-- or lent, which is that of all lines.
 use Rattle.std.specs.Prelude.{◌≡◌, ◌≢◌, ℕ, ◌+◌, List, [], ◌∷◌, ◌++◌, length, Result, Ok, Err, None, All, IfOk, IfErr}
 use Rattle.std.specs.Prelude.{IsOkAnd, OnOk}
 use Rattle.std.specs.Borrow.{Bor}
@@ -22,8 +23,8 @@ pub record TakesLine (old : Progress) (line : List ℕ) (new : Progress) (result
   pub refused : IfErr result (λ fault. UnlessNoMemory fault (after old line ≡ refused_for fault))
   pub again : (fault : ProfileFault) → old ≡ refused_for fault → result ≡ Err fault
 
--- the reader stands for the line with those before it; where it is refused, its fault is that of the whole file, whatever lines
--- follow, and isn't that the lines end too early
+-- the reader stands for the line with those before it; where it is refused, its fault is that of
+-- the whole file, whatever lines follow, and isn't that the lines end too early
 pub record TakesNext (old : Progress) (line : List ℕ) (new : Progress) (result : Result (Unit {0}) ProfileFault)
     : Type 0 where
   pub stands : OnOk result ((lines : List (List ℕ)) → StandsFor old lines → StandsFor new (lines ++ line ∷ []))

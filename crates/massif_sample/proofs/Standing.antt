@@ -385,7 +385,8 @@ counted-event stacks samples ledger names events event may sound judged none wit
     }
 
 -- the figures behind it are those of the events with it
-pub figures-behind : (samples : SamplesState) (ignored : ℕ → Bool) (events : List Event) (event : Event) (next : Running)
+pub figures-behind : (samples : SamplesState) (ignored : ℕ → Bool) (events : List Event) (event : Event)
+    (next : Running)
     → AreBehind samples event next → IsCounted samples.options ignored events event samples.running
     → AreFigures samples.options ignored (events ++ event ∷ []) next
 figures-behind samples ignored events event next behind known =

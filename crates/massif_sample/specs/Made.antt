@@ -48,7 +48,8 @@ IsShownAt asked fronts changes entry lines = OfTrees asked fronts changes
 abbrev pub IsTreeOfCosts : TreeOptions → ℕ → List (List (List ℕ)) → List ℕ → List TreeLine → Type 0
 IsTreeOfCosts asked total fronts costs lines = (tables : TableState) (names : List (List ℕ))
     → AreFirstTexts tables names asked.depth fronts
-    → lines ≡ massif_tree asked total (costed (trimmed_before tables names (length fronts)) (padded (length fronts) costs))
+    → lines ≡ massif_tree asked total (costed (trimmed_before tables names (length fronts))
+    (padded (length fronts) costs))
 
 -- a normal snapshot has no tree
 abbrev pub made : (SnapEntry → List TreeLine) → SnapEntry → Load → Snap
@@ -78,7 +79,8 @@ AreMade asked fronts changes array snaps = OfTrees asked fronts changes
 
 -- and those of samples
 abbrev pub AreMadeOf : SamplesState → List Snap → Type 0
-AreMadeOf samples snaps = AreMade (tree_options samples.options) samples.fronts samples.history.changes samples.array snaps
+AreMadeOf samples snaps =
+    AreMade (tree_options samples.options) samples.fronts samples.history.changes samples.array snaps
 
 -- the profile of them
 abbrev pub profile_made : SamplesState → TableState → List (List ℕ) → List ℕ → Profile

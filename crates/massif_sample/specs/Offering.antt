@@ -1,5 +1,5 @@
--- What the offer of a snapshot of the present place asks of samples and of what stands beside them, and what it makes of all
--- names, events and offers that they stand for, for private clauses.
+-- What the offer of a snapshot of the present place asks of samples and of what stands beside them,
+-- and what it makes of all names, events and offers that they stand for, for private clauses.
 use Rattle.std.specs.Prelude.{◌≡◌, ◌≢◌, ℕ, ◌+◌, ◌<◌, Bool, List, [], ◌∷◌, ◌++◌, length, Result, OnErr, OnOk}
 use Rattle.std.specs.Borrow.{Bor}
 use Rattle.std.specs.Fn.{FnReturnsAt, Shared}
@@ -80,7 +80,8 @@ OffersPlace g stacks ledger as_peak old new = OffersLive g stacks ledger
 abbrev pub OffersPeak : {A : Type 0} → Shared A (Bor (List ℕ) × Unit {0}) Bool → Stacks A → LedgerState → Event
     → SamplesState → SamplesState → Type 0
 OffersPeak g stacks ledger event old new = OffersLive g stacks ledger
-    (λ names events. peak_before old.options (ignores stacks.tables.now names) events event (event_count events)) old new
+    (λ names events. peak_before old.options (ignores stacks.tables.now names) events event (event_count events)) old
+    new
 
 -- the offer of the present place is taken as a snapshot that has a tree
 abbrev pub CallsForTree : TableState → Bool → SamplesState → Type 0
@@ -90,8 +91,8 @@ CallsForTree tables as_peak samples =
     → IsTakenAs samples.options made (offer_behind samples tables names events as_peak)
     (with_tree as_peak)
 
--- what an offer of the present place leaves: the figures are as before, and a snapshot is held; where memory was wanting, one
--- with a tree is due
+-- what an offer of the present place leaves: the figures are as before, and a snapshot is held;
+-- where memory was wanting, one with a tree is due
 pub record HasOffered {A E : Type 0} (stacks : Stacks A) (as_peak : Bool) (old new : SamplesState)
     (result : Result (Unit {0}) E) : Type 0 where
   pub options : new.options ≡ old.options

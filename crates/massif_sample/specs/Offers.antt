@@ -29,8 +29,8 @@ abbrev pub peak_before : MassifOptions → (ℕ → Bool) → List Event → Eve
 peak_before options ignored events event k = if is_free event
     then offer_at options ignored events true k ∷ [] else []
 
--- the offers of the event between place k and the next one: where it is counted, that of the peak before a free, and the
--- normal one behind it
+-- the offers of the event between place k and the next one: where it is counted, that of the peak
+-- before a free, and the normal one behind it
 abbrev pub offers_of_event : MassifOptions → (ℕ → Bool) → List Event → Event → ℕ → List Offer
 offers_of_event options ignored events event k =
     if counts ignored event

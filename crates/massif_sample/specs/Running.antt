@@ -112,7 +112,8 @@ pub record HasBlock (options : MassifOptions) (running : Running) (size : ℕ) :
   pub gross_within : gross options size ≤ running.gross
   pub extra : running.heap + gross options size ≤ running.gross + size
 
--- the event can be counted: a block that is freed is live, and one that is allocated isn't larger than all may be together
+-- the event can be counted: a block that is freed is live, and one that is allocated isn't larger
+-- than all may be together
 abbrev pub CanCount : MassifOptions → Running → Event → Type 0
 CanCount options running (Alloc info stack size) = size ≤ 2 ^ 62
 CanCount options running (Free info stack size) = HasBlock options running size

@@ -1,5 +1,5 @@
--- What the calls of a sampler ask and do: a stack more is judged, an event more is sampled, and where memory was wanting, a snapshot
--- with a tree is due, and no later event is taken.
+-- What the calls of a sampler ask and do: a stack more is judged, an event more is sampled, and
+-- where memory was wanting, a snapshot with a tree is due, and no later event is taken.
 use Rattle.std.specs.Prelude.{◌≡◌, ◌≢◌, ◌⊎◌, ℕ, ◌+◌, ◌^◌, ◌<◌, Bool, true, false, List, [], ◌∷◌, ◌++◌, length, Result}
 use Rattle.std.specs.Prelude.{Err, IfErr, OnErr, OnOk}
 use Rattle.std.specs.Borrow.{Bor}
@@ -38,7 +38,8 @@ pub record Judges {A I : Type 0} (g : Shared A (Bor (List ℕ) × Unit {0}) Bool
   pub count : length flags ≡ length tables.nodes + 1
   pub judged : (names : FunctionNames) → Means g h alloc_fns ignore_fns names → AreJudged names tables flags
 
--- a sampler that was just made has these options and tests, has judged the stacks of the tables, and stands for no event
+-- a sampler that was just made has these options and tests, has judged the stacks of the tables,
+-- and stands for no event
 pub record IsNew {A I : Type 0} (g : Shared A (Bor (List ℕ) × Unit {0}) Bool)
     (h : Shared I (Bor (List ℕ) × Unit {0}) Bool) (asked : MassifOptions) (tables : TableState)
     (alloc_test : FrameTest A) (ignore_test : FrameTest I) (sampler : Sampler A I) : Type 0 where
@@ -62,8 +63,9 @@ pub record JudgesOne {A I E : Type 0} (old new : Sampler A I) (result : Result (
   pub alloc_fns : new.alloc_fns ≡ old.alloc_fns
   pub ignore_fns : new.ignore_fns ≡ old.ignore_fns
 
--- the event may follow those that the sampler and the ledger stand for, as long as no memory was wanting: it is of an info that
--- is held, all stacks of the tables are held and were judged, and there is room for one more
+-- the event may follow those that the sampler and the ledger stand for, as long as no memory was
+-- wanting: it is of an info that is held, all stacks of the tables are held and were judged, and
+-- there is room for one more
 pub record CanFollow {A I : Type 0} (sampler : Sampler A I) (tables : TableState) (ledger : LedgerState) (event : Event)
     : Type 0 where
   pub held : IsHeld ledger event
@@ -80,7 +82,8 @@ Follows g h tables ledger event old new = (names : FunctionNames) (events : List
     → ledger_spec.StandsFor ledger events → Samples new names tables (events ++ event ∷ [])
 
 -- a snapshot with a tree is due at the event
-abbrev pub IsTreeDue : {A I : Type 0} → Shared A (Bor (List ℕ) × Unit {0}) Bool → Shared I (Bor (List ℕ) × Unit {0}) Bool
+abbrev pub IsTreeDue : {A I : Type 0} → Shared A (Bor (List ℕ) × Unit {0}) Bool
+    → Shared I (Bor (List ℕ) × Unit {0}) Bool
     → TableState → LedgerState → Event → Sampler A I → Type 0
 IsTreeDue g h tables ledger event sampler = (names : FunctionNames) (events : List Event)
     → Means g h sampler.alloc_fns sampler.ignore_fns names → Samples sampler names tables events

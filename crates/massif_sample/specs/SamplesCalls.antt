@@ -70,7 +70,8 @@ pub record IsJudged (samples : SamplesState) (as_peak : Bool) (taken : Taken) : 
       → IsSampling samples names tables events (made ++ offer_of samples.running as_peak ∷ [])
   pub some : taken ≡ No → 0 < length samples.array.kept.entries
 
--- the offer of the present place is made, as what it is judged to be; a snapshot with a tree needs the costs of the place
+-- the offer of the present place is made, as what it is judged to be; a snapshot with a tree needs
+-- the costs of the place
 abbrev pub TakesSnapshot : Taken → Bool → SamplesState → SamplesState → Type 0
 TakesSnapshot taken as_peak old new =
     (names : FunctionNames) (tables : TableState) (events : List Event) (made : List Offer)

@@ -11,8 +11,9 @@ use Rattle.massif_sample.specs.declared.running.Running.{Running}
 use Rattle.massif_sample.specs.Options.{AreInRange, settings_of}
 use Rattle.massif_sample.specs.Running as running
 
--- the options, the figures so far, the snapshots that are kept, whether memory was wanting for one, the texts of the stacks
--- so far that trees are built of, and what stacks cost at the places of the snapshots that have a tree
+-- the options, the figures so far, the snapshots that are kept, whether memory was wanting for one,
+-- the texts of the stacks so far that trees are built of, and what stacks cost at the places of the
+-- snapshots that have a tree
 pub record SamplesState : Type 0 where
   pub options : MassifOptions
   pub running : Running
@@ -21,8 +22,8 @@ pub record SamplesState : Type 0 where
   pub fronts : List (List (List ℕ))
   pub history : HistoryState
 
--- the options are within their ranges and are the array's, the figures are sound, and no snapshot is later than they are,
--- nor any cost
+-- the options are within their ranges and are the array's, the figures are sound, and no snapshot
+-- is later than they are, nor any cost
 pub record IsSound (samples : SamplesState) : Type 0 where
   pub options : AreInRange samples.options
   pub settings : samples.array.settings ≡ settings_of samples.options

@@ -43,7 +43,8 @@ pub record AreFronts (options : MassifOptions) (names : FunctionNames) (tables :
   pub held : length fronts ≤ length tables.nodes + 1
   pub are : fronts ≡ first_lists tables names.alloc_fns (options.depth + 1) (length fronts)
 
--- the entry and its load have the figures of the entry's place, and where it has a tree, the changes say what stacks cost there
+-- the entry and its load have the figures of the entry's place, and where it has a tree, the
+-- changes say what stacks cost there
 pub record IsSnapshot (options : MassifOptions) (names : FunctionNames) (tables : TableState)
     (events : List Event) (changes : List Change) (entry : SnapEntry) (load : Load) : Type 0 where
   pub place : entry.place ≤ event_count events
@@ -71,8 +72,9 @@ abbrev pub AreOfStacks : TableState → List Event → Type 0
 AreOfStacks tables events = (k : ℕ) (event : Event) → slice_get events k ≡ Some event
     → IsOfStack tables event
 
--- the figures are those of the events, and the snapshots those that are kept of these offers; each stack that isn't marked costs
--- what the history says, and each stack that the history knows has its texts
+-- the figures are those of the events, and the snapshots those that are kept of these offers; each
+-- stack that isn't marked costs what the history says, and each stack that the history knows has
+-- its texts
 pub record IsSampling (samples : SamplesState) (names : FunctionNames) (tables : TableState)
     (events : List Event) (made : List Offer) : Type 0 where
   pub stacks : AreOfStacks tables events

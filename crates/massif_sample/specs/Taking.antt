@@ -1,5 +1,6 @@
--- What an event does to samples is said for all names and events that they and a ledger stand for: an event more is taken, its
--- fault is told, and where memory was wanting, a snapshot with a tree is due.
+-- What an event does to samples is said for all names and events that they and a ledger stand for:
+-- an event more is taken, its fault is told, and where memory was wanting, a snapshot with a tree
+-- is due.
 use Rattle.std.specs.Prelude.{◌≡◌, ◌≢◌, ◌⊎◌, ℕ, ◌+◌, ◌^◌, ◌<◌, Bool, false, List, [], ◌∷◌, ◌++◌, length, None, Result}
 use Rattle.std.specs.Prelude.{IfErr, OnErr, OnOk}
 use Rattle.std.specs.Borrow.{Bor}
@@ -32,8 +33,8 @@ StandTogether judged tables samples ledger =
     (names : FunctionNames) × (events : List Event) × StandsFor judged samples names tables events
     × ledger_spec.StandsFor ledger events
 
--- the event may follow those that both stand for: it is of an info that is held, all stacks of the tables are held and were
--- judged, and there is room for one more
+-- the event may follow those that both stand for: it is of an info that is held, all stacks of the
+-- tables are held and were judged, and there is room for one more
 pub record CanTakeEvent {A : Type 0} (stacks : Stacks A) (samples : SamplesState) (ledger : LedgerState) (event : Event)
     : Type 0 where
   pub range : AreInRange samples.options
@@ -72,8 +73,8 @@ CallsForTreeAt g stacks ledger event samples =
     → ledger_spec.StandsFor ledger events
     → IsDue samples.options (ignores stacks.tables.now names) events event
 
--- the ledger has taken the event where it has no fault, and where it has one, both are as before; where memory was wanting, the
--- ledger has taken it or not
+-- the ledger has taken the event where it has no fault, and where it has one, both are as before;
+-- where memory was wanting, the ledger has taken it or not
 pub record TakesOrLeaves (old new : SamplesState) (before after : LedgerState) (event : Event)
     (result : Result (Unit {0}) SampleFault) : Type 0 where
   pub options : new.options ≡ old.options

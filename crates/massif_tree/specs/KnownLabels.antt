@@ -18,8 +18,8 @@ abbrev pub KeepTexts : List (List ℕ) → List (List ℕ) → Type 0
 KeepTexts old new = (texts : List (List ℕ)) (root : ℕ) → HoldTexts texts root old
     → HoldTexts texts root new
 
--- by any texts whose labels are held, a label's number is that of a front's label, where the front has so many texts and the
--- last of them this number
+-- by any texts whose labels are held, a label's number is that of a front's label, where the front
+-- has so many texts and the last of them this number
 abbrev pub IsLabelNumber : ℕ → ℕ → ℕ → ℕ → Type 0
 IsLabelNumber root level number label = (texts labels front : List (List ℕ))
     → HoldTexts texts root labels → level ≡ length front → text_of texts number ≡ last_of front

@@ -36,8 +36,8 @@ same_mark Peak Peak = true
 abbrev pub stands_in : Plot → ℕ → HeapTree → Snap → Bool
 stands_in plot x mark snap = same_mark mark snap.mark && nat_eq (column_at plot snap.time) x
 
--- The snapshot that column x shows: the last peak that stands there, where there is none the last detailed one, and where there is
--- none of these the last one without a tree.
+-- The snapshot that column x shows: the last peak that stands there, where there is none the last
+-- detailed one, and where there is none of these the last one without a tree.
 unfoldable pub shown_in : Plot → List Snap → ℕ → Option Snap
 shown_in plot snaps x =
     option_or (last_such (stands_in plot x Peak) snaps)

@@ -16,8 +16,9 @@ sign_of Peak = 35
 sign_of Detailed = 64
 sign_of Empty = 58
 
--- The cell in row y, from the bar of its column and the nearest one at it or to the left: a bar fills its column up to its height,
--- and goes on at its height to the right, as far as no column has a bar.
+-- The cell in row y, from the bar of its column and the nearest one at it or to the left: a bar
+-- fills its column up to its height, and goes on at its height to the right, as far as no column
+-- has a bar.
 unfoldable pub cell_of : Option Bar → Option Bar → ℕ → ℕ
 cell_of (Some bar) nearest y = if nat_le y bar.height then sign_of bar.mark else 32
 cell_of None (Some left) y = if nat_eq y left.height then sign_of left.mark else 32

@@ -42,8 +42,8 @@ abbrev pub without_point : List ℕ → List ℕ
 without_point text = if nat_eq (slice_index text (length text - 1)) 46
     then take (length text - 1) text else text
 
--- the value in units of a size: the whole part alone where it has five digits or more, and else with three digits more, rounded down,
--- of which those stand that fit into five bytes
+-- the value in units of a size: the whole part alone where it has five digits or more, and else
+-- with three digits more, rounded down, of which those stand that fit into five bytes
 unfoldable pub scaled_text : ℕ → ℕ → List ℕ
 scaled_text size value =
     if nat_le 10000 (value / size) then decimal (value / size)

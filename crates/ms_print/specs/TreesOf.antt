@@ -17,7 +17,8 @@ later_trees zero trees = trees
 later_trees (suc n) no_tree = no_tree
 later_trees (suc n) (a_tree bytes label children others) = later_trees n others
 
--- A line is a root: of the trees that the lines after it say, the first are its children, as many as it has, and the others stand beside it.
+-- A line is a root: of the trees that the lines after it say, the first are its children, as many
+-- as it has, and the others stand beside it.
 abbrev pub trees_of : List TreeLine → Trees
 trees_of [] = no_tree
 trees_of (line ∷ lines) = a_tree line.bytes line.label (first_trees line.children (trees_of lines))

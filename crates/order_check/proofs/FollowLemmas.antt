@@ -29,7 +29,8 @@ use Rattle.order_check.proofs.RecordedLines.{CallsFor, ends-recorded, grows, las
 abbrev pub HasText : Job → List ℕ → List (List ℕ) → Type 0
 HasText job order lines = (rest : List ℕ) × (recorded job order ≡ text_of_lines lines ++ rest)
 
--- what lines were followed to: the recording of an order under the scripts, which each that begins with them goes on from
+-- what lines were followed to: the recording of an order under the scripts, which each that begins
+-- with them goes on from
 pub record Follows (job : Job) (lines : List (List ℕ)) (now : Following) : Type 0 where
   pub under : IsUnder job.scripts now.order
   pub text_is : recorded job now.order ≡ text_of_lines lines ++ now.coming

@@ -200,7 +200,8 @@ refused-at input line passed line_ended kept bytes taken left check next more sp
 
     all : lines_of bytes ≡ (taken ++ next ∷ []) ++ more
     all =
-        before.lines_are ∙ ap (λ (ls : List (List ℕ)). taken ++ ls) lines_are ∙ sym (append_assoc taken (next ∷ []) more)
+        before.lines_are ∙ ap (λ (ls : List (List ℕ)). taken ++ ls) lines_are ∙ sym
+        (append_assoc taken (next ∷ []) more)
 
     fits : min (length taken + 1) (length (lines_of bytes)) ≡ length taken + 1
     fits = omega (arith, ap length all, length-append (taken ++ next ∷ []) more, length_push taken next)

@@ -24,8 +24,8 @@ pub record IsWhole (input line : ℕ) (job : Job) (bytes : List ℕ) (events : �
   pub recording : IsRecording job bytes
   pub count : events ≡ length (spelled bytes)
 
--- the file is none: the line behind so many is the first up to which no recording begins so, or the one behind the last. None up
--- to there has a fault of its length
+-- the file is none: the line behind so many is the first up to which no recording begins so, or the
+-- one behind the last. None up to there has a fault of its length
 pub record IsRefusedAt (input line : ℕ) (job : Job) (bytes : List ℕ) (count : ℕ) : Type 0 where
   pub breaks : BreaksOff job bytes count
   pub lengths : HasNoLengthFault input line bytes (min (count + 1) (length (lines_of bytes)))

@@ -6,8 +6,8 @@ use Rattle.order_check.specs.declared.verdict.CheckRefusal.{CheckRefusal}
 use Rattle.order_check.specs.declared.verdict.CheckRefusal.TheVariants.{NotRecorded}
 use Rattle.order_check.specs.Following.{Following, at_place, followed, thread_for, turn_begun, whole_events, with_line}
 
--- the scripts with their modules, the order of the turns that the lines have begun, the bytes of its recording that are kept,
--- and the last of these, which are to come
+-- the scripts with their modules, the order of the turns that the lines have begun, the bytes of
+-- its recording that are kept, and the last of these, which are to come
 pub record CheckState : Type 0 where
   pub job : Job
   pub order : List ℕ

@@ -11,7 +11,8 @@ use Rattle.order_check.specs.declared.verdict.CheckFault.TheVariants.{ReadFailed
 use Rattle.order_check.specs.declared.verdict.Verdict.{Verdict}
 use Rattle.order_check.specs.CheckAnswer.{CheckAnswer}
 
--- where the store tells what is left of the file, the answer is the one to these bytes, of which none may have more, nor longer lines
+-- where the store tells what is left of the file, the answer is the one to these bytes, of which
+-- none may have more, nor longer lines
 abbrev pub AnswersFile : {S : Type 0} → store.Ghosts S → ℕ → ℕ → Job → S → S
     → Result Verdict CheckFault → Type 0
 AnswersFile s input line job old new result = WhereTold (s.left old)

@@ -12,7 +12,8 @@ use Rattle.record_book.specs.BookState.{stepped}
 use Rattle.record_book.specs.RecordedTrace.{recorded}
 use Rattle.record_book.specs.Spelled.{behind, named}
 
--- how far recordings were followed: the order of the turns that were begun, and the bytes of its recording that are to come
+-- how far recordings were followed: the order of the turns that were begun, and the bytes of its
+-- recording that are to come
 pub record Following : Type 0 where
   pub order : List ℕ
   pub coming : List ℕ
@@ -95,7 +96,7 @@ events_at_end job ended (Some now) =
     if ended && is_empty now.coming && are_done 0 job.scripts now.order then Some (length now.order)
     else None
 
--- the number of events, where lines are all of a recording in which all turns are taken; whether the last one ended with its
--- line feed is told beside them
+-- the number of events, where lines are all of a recording in which all turns are taken; whether
+-- the last one ended with its line feed is told beside them
 abbrev pub whole_events : Job → List (List ℕ) → Bool → Option ℕ
 whole_events job lines ended = events_at_end job ended (followed job lines)

@@ -21,8 +21,8 @@ pub record FrontLaws (job : Job) : Type 0 where
   -- it is enough to look at few orders
   pub few : (lines : List (List ℕ)) → All IsLineText lines
       → IsFront job lines ↔ BeginsAsSpelled job lines
-  -- the lines of a file, with or without a line feed behind the last one: they are all of a recording exactly where they are so
-  -- followed
+  -- the lines of a file, with or without a line feed behind the last one: they are all of a
+  -- recording exactly where they are so followed
   pub whole : (bytes : List ℕ) (ended : Bool) (events : ℕ)
       → (ended ≡ true → bytes ≡ text_of_lines (lines_of bytes))
       → whole_events job (lines_of bytes) ended ≡ Some events

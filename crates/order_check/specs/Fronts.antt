@@ -22,7 +22,8 @@ pub record IsRecording (job : Job) (bytes : List ℕ) : Type 0 where
   pub trace : bytes ≡ recorded job (spelled bytes)
   pub all : IsInterleaving job.scripts (spelled bytes)
 
--- some recording begins with the first so many lines of bytes that are none, and none with one line more, where there is one
+-- some recording begins with the first so many lines of bytes that are none, and none with one line
+-- more, where there is one
 pub record BreaksOff (job : Job) (bytes : List ℕ) (count : ℕ) : Type 0 where
   pub within : count ≤ length (lines_of bytes)
   pub front : IsFront job (take count (lines_of bytes))

@@ -14,7 +14,8 @@ pub record IsLastTurn (job : Job) (order bytes : List ℕ) : Type 0 where
   pub order_is : order ≡ stepped job.scripts thread earlier
   pub bytes_are : bytes ≡ added job earlier thread
 
--- nothing is kept of the recording but the lines of the turn that was begun last, or before any turn what stands before them
+-- nothing is kept of the recording but the lines of the turn that was begun last, or before any
+-- turn what stands before them
 abbrev pub KeepsTurn : Job → List ℕ → List ℕ → Type 0
 KeepsTurn job order kept = (kept ≡ []) ⊎ ((order ≡ []) × (kept ≡ recorded job []))
     ⊎ IsLastTurn job order kept

@@ -7,8 +7,8 @@ use Rattle.order_check.specs.CheckState.{CheckState, HasTaken}
 use Rattle.order_check.specs.Following.{is_front}
 use Rattle.order_check.specs.KeptTurn.{KeepsOneTurn}
 
--- it is taken behind the lines before it, or refused exactly where no recording begins with it behind them; and no more is kept of the
--- recording than one turn
+-- it is taken behind the lines before it, or refused exactly where no recording begins with it
+-- behind them; and no more is kept of the recording than one turn
 pub record TakesLine (old new : CheckState) (line : List ℕ) (result : Result (Unit {0}) CheckRefusal)
     : Type 0 where
   pub taken : OnOk result

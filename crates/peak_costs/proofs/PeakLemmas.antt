@@ -288,7 +288,8 @@ stands-rises old new events event is stands now rises =
       peak = has.peak;
       total = has.total_is;
       shares =
-          λ n. ap (λ (xs : List ℕ). slice_index xs n) rises.shares ∙ figure-at (λ (f : Figures). f.live) new.ledger n refl
+          λ n. ap (λ (xs : List ℕ). slice_index xs n) rises.shares ∙ figure-at
+          (λ (f : Figures). f.live) new.ledger n refl
           ∙ (now.each_stack n).live_is ∙ sym (live_in-counted n after)
           ∙ ap (λ (es : List Event). live_in n es) (sym all);
       block_shares =

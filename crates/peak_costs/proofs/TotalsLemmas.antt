@@ -73,7 +73,8 @@ totals-moved old mark events event has stands now =
     moved : (event : Event) → HasTotals (ledger_of (state_after old event)) (events ++ event ∷ [])
         → HasPeak (mark_after old mark event).total (mark_after old mark event).moment (events ++ event ∷ [])
     moved (Alloc info stack size) now =
-        peak-moved mark (totals_after old (Alloc info stack size)) events (Alloc info stack size) refl before now.figures
+        peak-moved mark (totals_after old (Alloc info stack size)) events
+        (Alloc info stack size) refl before now.figures
     moved (Free info stack size) now =
         let event : Event = Free info stack size in
         subst (λ (m : Mark). HasPeak m.total m.moment (events ++ event ∷ []))

@@ -29,8 +29,8 @@ use Rattle.profile_reports.specs.MassifFileFault as massif_spec
 use Rattle.profile_reports.specs.MassifFileReport.{massif_file_plan}
 use Rattle.profile_reports.specs.DocumentFault as dhat_spec
 
--- why a DHAT profile can't be converted by the figures of a key: it has a snapshot, so a tree isn't what it lacks; want of
--- memory is no fault of it, and never told as one
+-- why a DHAT profile can't be converted by the figures of a key: it has a snapshot, so a tree isn't
+-- what it lacks; want of memory is no fault of it, and never told as one
 abbrev pub dhat_fault : FigureKey → ConvertFault → DocumentFault
 dhat_fault key convert.TooLarge = dhat.TooLarge
 dhat_fault key _ = dhat.NoFigures key

@@ -27,9 +27,10 @@ abbrev pub massif_file_verdict : (Profile → Verdict) → Result Profile (ℕ �
 massif_file_verdict verdict (Ok profile) = verdict profile
 massif_file_verdict verdict (Err first) = Refuses (told (File first.1))
 
--- what lines are is told by `profile_of`: the profile that they are by the relation `is_profile`, or by `profile_fault` the number of
--- their first faulty line and its fault, to which the law `massif_profiles` of massif_file ties it. A line is refused where it has the
--- first fault of the lines up to it, and the profile is judged once all were read
+-- what lines are is told by `profile_of`: the profile that they are by the relation `is_profile`,
+-- or by `profile_fault` the number of their first faulty line and its fault, to which the law
+-- `massif_profiles` of massif_file ties it. A line is refused where it has the first fault of the
+-- lines up to it, and the profile is judged once all were read
 abbrev pub massif_file_report : (Profile → Verdict) → Report
 massif_file_report verdict = record {
   line_fault = λ earlier line. told_at (length earlier + 1) (profile_of (earlier ++ line ∷ []));

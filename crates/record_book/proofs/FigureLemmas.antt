@@ -143,7 +143,8 @@ below-without n thread id [] all = tt
 below-without n thread id (block ∷ older) all = by (below-without n thread id older all.1) (has_id thread id block)
   where
     by : AllByRecursion (λ block. block.thread < n) (without thread id older) → (b : Bool)
-        → AllByRecursion (λ block. block.thread < n) (cond b (without thread id older) (block ∷ without thread id older))
+        → AllByRecursion (λ block. block.thread < n)
+        (cond b (without thread id older) (block ∷ without thread id older))
     by rest true = rest
     by rest false = (all.0, rest)
 

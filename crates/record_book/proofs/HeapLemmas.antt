@@ -183,7 +183,8 @@ end-placed_at address block (taken class other ∷ older) = ap (λ (n : ℕ). n 
 end-placed_at address block (empty class ∷ older) = by (end-placed_at address block older) (end_of older == address)
   where
     by : end_of (placed_at address block older) ≡ end_of older → (b : Bool)
-        → end_of (cond b (taken class block ∷ older) (empty class ∷ placed_at address block older)) ≡ end_of older + class
+        → end_of (cond b (taken class block ∷ older) (empty class ∷ placed_at address block older)) ≡ end_of older
+        + class
     by same_end true = refl
     by same_end false = ap (λ (n : ℕ). n + class) same_end
 

@@ -1,5 +1,6 @@
--- What the crates above may cite: texts of one line, the lines of bytes and of a summary, which lines name a thread, what the entries of an order mean, what a
--- thread does in an order, live blocks by their IDs with what they weigh, and where they lie.
+-- What the crates above may cite: texts of one line, the lines of bytes and of a summary, which
+-- lines name a thread, what the entries of an order mean, what a thread does in an order, live
+-- blocks by their IDs with what they weigh, and where they lie.
 pub use Rattle.record_book.proofs.LineTexts.{both-text, digits-text, kind-text, literal-text, text-append}
 pub use Rattle.record_book.proofs.SpelledLemmas.{line-of, none-at, spelled-order, there, thread-named, thread-text}
 pub use Rattle.record_book.proofs.SpelledLemmas.{threads-order, threads_of, unnamed}

@@ -166,7 +166,8 @@ stepped-turn scripts order thread k turn at taken =
   where
     by : (turn : Turn)
         → order
-        ++ turn_entries thread (slice_get (events_of_turn turn ++ events_of (drop (k + 1) (script_at scripts thread))) 0)
+        ++ turn_entries thread (slice_get (events_of_turn turn ++ events_of (drop (k + 1) (script_at scripts thread)))
+        0)
         ≡ order ++ entries_of thread turn
     by (allocates id size ips) = refl
     by (frees id) = refl

@@ -117,7 +117,8 @@ taken-more job done order trace thread turn book within at other false p =
     let stays = done-other done thread other (done_at done thread + 1) apart in
     let counted : times other (order ++ entries_of thread turn) ≡ times other order =
     omega (arith, times-append other order (entries_of thread turn), times-other thread other turn apart) in (
-      counted ∙ book.taken other ∙ ap (λ (n : ℕ). length (events_of (take n (script_at job.scripts other)))) (sym stays),
+      counted ∙ book.taken other ∙ ap (λ (n : ℕ). length (events_of (take n (script_at job.scripts other))))
+          (sym stays),
       omega (arith, stays, book.few_taken other),
     )
 
@@ -251,7 +252,8 @@ let-go job done order trace new book none nodes heap last = record {
   closed = book.closed;
   trace_is = record {
     text_is =
-        ap (λ (text : List ℕ). (book.gone ++ trace.text.items) ++ text) none ∙ append-nil (book.gone ++ trace.text.items)
+        ap (λ (text : List ℕ). (book.gone ++ trace.text.items) ++ text) none ∙ append-nil
+        (book.gone ++ trace.text.items)
         ∙ book.trace_is.text_is;
     nodes_are =
         subst (λ (ns : List Node). AreNumbered ns (stacks_after (actions job.scripts order))) (sym nodes)

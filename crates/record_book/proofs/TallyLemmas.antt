@@ -39,7 +39,8 @@ count-split thread id actions =
     ∙ ap (λ (found : Option ℕ). cond {A = ℕ} (is_some found) 1 0) (sym (held-size (held_after actions) thread id)))
   where
     by : (found : Option Held)
-        → weight_of (one_held every) found ≡ cond {A = ℕ} (is_some (option_map (λ (block : Held). block.size) found)) 1 0
+        → weight_of (one_held every) found ≡ cond {A = ℕ}
+        (is_some (option_map (λ (block : Held). block.size) found)) 1 0
     by None = refl
     by (Some block) = refl
 
@@ -50,7 +51,8 @@ without-within weight thread id [] = omega arith
 without-within weight thread id (block ∷ older) = by (without-within weight thread id older) (has_id thread id block)
   where
     by : weigh weight (without thread id older) ≤ weigh weight older → (b : Bool)
-        → weigh weight (cond b (without thread id older) (block ∷ without thread id older)) ≤ weigh weight (block ∷ older)
+        → weigh weight (cond b (without thread id older) (block ∷ without thread id older)) ≤ weigh weight
+        (block ∷ older)
     by rest true = omega (arith, rest)
     by rest false = omega (arith, rest)
 

@@ -23,8 +23,8 @@ abbrev pub with_event : ℕ → Option Event → List Action → List Action
 with_event thread None before = before
 with_event thread (Some event) before = record { thread = thread; event = event } ∷ before
 
--- for an order listed from the last entry to the first: an entry means the event of its thread whose number is the count of
--- that thread among the entries before
+-- for an order listed from the last entry to the first: an entry means the event of its thread
+-- whose number is the count of that thread among the entries before
 abbrev pub actions_back : List (List Turn) → List ℕ → List Action
 actions_back scripts [] = []
 actions_back scripts (thread ∷ before) = with_event thread

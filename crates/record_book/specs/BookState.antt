@@ -15,7 +15,8 @@ pub record Recording : Type 0 where
   pub job : Job
   pub order : List ℕ
 
--- the entries of a thread's turn that begins with an event: two where a reallocation does, and none where there is no event
+-- the entries of a thread's turn that begins with an event: two where a reallocation does, and none
+-- where there is no event
 abbrev pub turn_entries : ℕ → Option Event → List ℕ
 turn_entries thread None = []
 turn_entries thread (Some (allocation id size ips)) = thread ∷ []

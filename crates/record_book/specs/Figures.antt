@@ -24,7 +24,8 @@ without thread id [] = []
 without thread id (block ∷ older) = if has_id thread id block then without thread id older
     else block ∷ without thread id older
 
--- the live blocks after an event. An allocation takes the place of a live block of the same ID, which none in a script does
+-- the live blocks after an event. An allocation takes the place of a live block of the same ID,
+-- which none in a script does
 abbrev pub held_with : ℕ → Event → List Held → List Held
 held_with thread (allocation id size ips) blocks
     = record { thread = thread; id = id; size = size; ips = ips } ∷ without thread id blocks

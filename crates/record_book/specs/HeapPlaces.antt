@@ -23,8 +23,8 @@ pub data Place : Type 0 where
 abbrev pub class_of : ℕ → ℕ
 class_of size = (max size 1 + 15) / 16 * 16
 
--- for places listed from the last to the first: the address behind all of them. The first one lies at hexadecimal 10000, and
--- each other at the address behind the older ones
+-- for places listed from the last to the first: the address behind all of them. The first one lies
+-- at hexadecimal 10000, and each other at the address behind the older ones
 abbrev pub end_of : List Place → ℕ
 end_of [] = 65536
 end_of (taken class block ∷ older) = end_of older + class

@@ -16,7 +16,8 @@ pub record AreNumbered (nodes : List Node) (known : List (List ℕ)) : Type 0 wh
   pub stacks : (ips : List ℕ) → number_in known ips ≢ 0 → stack nodes (number_in known ips) ≡ ips
   pub frames : (n : ℕ) → n ≤ length nodes → frame_count nodes n ≡ length (stack nodes n)
 
--- the node of a pointer that is called from a parent is among the new nodes, and is one more where its stack wasn't known
+-- the node of a pointer that is called from a parent is among the new nodes, and is one more where
+-- its stack wasn't known
 pub record IsInterned (old : List Node) (known : List (List ℕ)) (new : List Node)
     (node ip parent : ℕ) : Type 0 where
   pub numbered : AreNumbered new (with_stack known (ip ∷ stack old parent))

@@ -24,8 +24,8 @@ ArePaired [] = Unit {0}
 ArePaired (action ∷ before) = (IfSome (awaited before) (λ thread. action.thread ≡ thread))
     × ArePaired before
 
--- an order under scripts: each thread stands in it at most as often as its script has events, which are none where there is no
--- such script, and no reallocation is parted or left open
+-- an order under scripts: each thread stands in it at most as often as its script has events, which
+-- are none where there is no such script, and no reallocation is parted or left open
 pub record IsUnder (scripts : List (List Turn)) (order : List ℕ) : Type 0 where
   pub at_most : (thread : ℕ) → times thread order ≤ length (events_at scripts thread)
   pub paired : ArePaired (actions scripts order)

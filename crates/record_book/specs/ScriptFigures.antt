@@ -10,9 +10,10 @@ use Rattle.record_book.specs.Figures.{sum_below}
 use Rattle.record_book.specs.Orders.{IsInterleaving}
 use Rattle.record_book.specs.SummaryText.{summary_of}
 
--- calls, allocated bytes and what is live at the end, of all stacks and of any that are counted, are the sums of what the threads
--- have alone, and so are the events. The greatest total is no less than each thread's own peak, and no greater than the sum of
--- them. So the summary of another order of the scripts differs in the peak alone
+-- calls, allocated bytes and what is live at the end, of all stacks and of any that are counted,
+-- are the sums of what the threads have alone, and so are the events. The greatest total is no less
+-- than each thread's own peak, and no greater than the sum of them. So the summary of another order
+-- of the scripts differs in the peak alone
 pub record HasScriptFigures (scripts : List (List Turn)) (order : List ℕ) : Type 0 where
   pub event_sum : length order ≡ event_count scripts
   pub call_sum : (counted : List ℕ → Bool)

@@ -35,8 +35,8 @@ abbrev pub GainsText : Streamed → Streamed → Type 0
 GainsText old new = (more : List ℕ) × (new.text ≡ old.text ++ more)
     × (recorded new.job new.order ≡ recorded old.job old.order ++ more)
 
--- the order and the trace are those of so many turns of each thread, and a front of the trace was let go; the blocks that lie in
--- the trace are those that are live in the scripts
+-- the order and the trace are those of so many turns of each thread, and a front of the trace was
+-- let go; the blocks that lie in the trace are those that are live in the scripts
 pub record IsStream (job : Job) (done order : List ℕ) (trace : Trace) : Type 0 where
   pub gone : List ℕ
   pub threads : length done ≡ length job.scripts

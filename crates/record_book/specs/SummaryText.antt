@@ -9,8 +9,8 @@ use Rattle.record_book.specs.Figures.{allocated, calls, every, greatest_below, l
 use Rattle.record_book.specs.Figures.{sum_below}
 use Rattle.record_book.specs.declared.summary.Summary.{Summary}
 
--- the figures of scripts that are recorded in an order: the peak is that of the order, and it lies between the greatest peak of a
--- script and the sum of their peaks
+-- the figures of scripts that are recorded in an order: the peak is that of the order, and it lies
+-- between the greatest peak of a script and the sum of their peaks
 unfoldable pub summary_of : List (List Turn) → List ℕ → Summary
 summary_of scripts order = record {
   threads = length scripts;

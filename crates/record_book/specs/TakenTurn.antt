@@ -48,8 +48,8 @@ pub record IsNodeOf (nodes : List Node) (ips : List ℕ) (node : ℕ) : Type 0 w
   pub held : node ≤ length nodes
   pub stack_is : node ≢ 0 → stack nodes node ≡ ips
 
--- what becomes of nodes and heap while a turn is taken: the nodes only grow, and where memory is wanting halfway, the blocks
--- and the last thread are as they were
+-- what becomes of nodes and heap while a turn is taken: the nodes only grow, and where memory is
+-- wanting halfway, the blocks and the last thread are as they were
 pub record TakesTurn {E : Type 0} (old new : Trace) (turn_stack : TurnStack)
     (result : Result ℕ E) : Type 0 where
   pub nodes : Continues old.nodes new.nodes

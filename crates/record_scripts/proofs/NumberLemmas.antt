@@ -69,7 +69,8 @@ fields-at digits (b ∷ rest) some none ends =
 module _ (text : List ℕ) (n : ℕ) (after : List ℕ) (found : BeginsWithNumber text n after) where
   first-field : fields text ≡ found.digits ∷ fields after
   first-field =
-      ap fields found.split ∙ fields-at found.digits after found.some (digits-no_blank found.digits found.all) found.ends
+      ap fields found.split ∙ fields-at found.digits after found.some
+      (digits-no_blank found.digits found.all) found.ends
 
   pub first-number : numbers text ≡ n ∷ numbers after
   first-number = ap (map number) first-field ∙ ap (λ o. unwrap_or o 0 ∷ numbers after) found.parsed
@@ -98,7 +99,8 @@ number-found (b ∷ bs) after count n some blank found left =
       some = omega (arith, size, found.some);
       all = found.digits;
       parsed =
-          parsed_digits (take count rest) (omega (arith, size, found.some)) (omega (arith, size, found.most)) found.digits
+          parsed_digits (take count rest) (omega (arith, size, found.some))
+          (omega (arith, size, found.most)) found.digits
           ∙ ap Some (sym found.value);
       ends = subst (λ (l : List ℕ). IsTrue (field_ends l)) (sym left) found.ends;
     }

@@ -82,7 +82,8 @@ scripts-begun nodes scripts empty live later events limit table few none gone =
           (all-push (λ (script : List Turn). AllByRecursion IsBounded script) (scripts_kept nodes scripts) []
           table.bounded tt);
       in_turn =
-          subst (AllByRecursion IsInTurn) (sym kept) (all-push IsInTurn (scripts_kept nodes scripts) [] table.in_turn tt);
+          subst (AllByRecursion IsInTurn) (sym kept)
+          (all-push IsInTurn (scripts_kept nodes scripts) [] table.in_turn tt);
       live_blocks =
           λ id. gone id
           ∙ ap (λ (turns : List Turn). is_live turns id)

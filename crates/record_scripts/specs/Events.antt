@@ -3,7 +3,8 @@
 use Rattle.std.specs.Prelude.{ℕ, Bool, true, false, List, [], ◌∷◌, length, flat_map, sum_by}
 use Rattle.record_scripts.specs.Turns.{Turn, allocates, frees, reallocates}
 
--- a block is allocated, or freed; `rejoined` says of a free that the allocation of the same reallocation is the next event
+-- a block is allocated, or freed; `rejoined` says of a free that the allocation of the same
+-- reallocation is the next event
 pub data Event : Type 0 where
   allocation : (id size : ℕ) (ips : List ℕ) → Event
   free : (id : ℕ) (rejoined : Bool) → Event

@@ -8,8 +8,8 @@ use Rattle.ht_lines.specs.declared.item.Form.TheVariants.{Raw}
 use Rattle.ht_lines.specs.Written.{IsWritable, written}
 use Rattle.record_scripts.specs.ModuleLine.{is_module}
 
--- what one line about modules says in file version 2: a name in it has no line feed, and its written form is no longer than what
--- can be read
+-- what one line about modules says in file version 2: a name in it has no line feed, and its
+-- written form is no longer than what can be read
 pub record IsModuleSaid (said : Content) : Type 0 where
   pub about : is_module said ≡ true
   pub texts : HasOneLineTexts said

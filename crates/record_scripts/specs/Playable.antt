@@ -9,8 +9,8 @@ use Rattle.record_scripts.specs.Turns.{AreBounded, Turn, allocates, frees, reall
 use Rattle.record_scripts.specs.Events.{event_count}
 use Rattle.record_scripts.specs.Job.{Job}
 
--- after turns that are listed from the last to the first, the block of an allocation isn't live, and that of a free or of a
--- reallocation is; the instruction pointers fit 64 bits
+-- after turns that are listed from the last to the first, the block of an allocation isn't live,
+-- and that of a free or of a reallocation is; the instruction pointers fit 64 bits
 abbrev pub Follows : List Turn → Turn → Type 0
 Follows before (allocates id size ips) = (is_live_after before id ≡ false) × AreWords ips
 Follows before (frees id) = is_live_after before id ≡ true
@@ -25,7 +25,8 @@ AreInTurn (turn ∷ before) = Follows before turn × AreInTurn before
 abbrev pub IsInTurn : List Turn → Type 0
 IsInTurn script = AreInTurn (reverse script)
 
--- at most 64 scripts of fewer than 2^24 events together, each of whose turns follows those before it and is within its bounds
+-- at most 64 scripts of fewer than 2^24 events together, each of whose turns follows those before
+-- it and is within its bounds
 pub record IsPlayable (job : Job) : Type 0 where
   pub in_turn : AllByRecursion IsInTurn job.scripts
   pub bounded : AreBounded job.scripts

@@ -92,8 +92,8 @@ HasRoom [] = Unit {0}
 HasRoom (script ∷ []) = vec_len script.turns < vec_capacity script.turns
 HasRoom (script ∷ next ∷ more) = HasRoom (next ∷ more)
 
--- the scripts have so many events, no more than are allowed, and these blocks of the last one are live; the nodes are those
--- of their stacks, and each event has brought 256 at most
+-- the scripts have so many events, no more than are allowed, and these blocks of the last one are
+-- live; the nodes are those of their stacks, and each event has brought 256 at most
 pub record AreScripts (nodes : List Node) (scripts : List Script) (live : ℕ → Bool)
     (events limit : ℕ) : Type 0 where
   pub held : AreHeld (length nodes) scripts
@@ -134,7 +134,8 @@ pub record PushesTurn {T E : Type 0} (old new : List Script) (turn : TurnEntry)
   pub same : OnErr result (KeepsScripts old new)
   pub count : length new ≡ length old
 
--- the stack has the number, and its nodes are there, each of one frame; where memory was wanting, the nodes are as they were
+-- the stack has the number, and its nodes are there, each of one frame; where memory was wanting,
+-- the nodes are as they were
 pub record InternsStack {E : Type 0} (old new : List Node) (ips : List ℕ)
     (result : Result ℕ E) : Type 0 where
   pub interned : IfOk result

@@ -13,8 +13,8 @@ pub data Turn : Type 0 where
   frees : (id : ℕ) → Turn
   reallocates : (id size : ℕ) (ips : List ℕ) → Turn
 
--- for turns listed from the last to the first, whether the block with the ID is live after them: the last turn that names
--- it leaves it live
+-- for turns listed from the last to the first, whether the block with the ID is live after them:
+-- the last turn that names it leaves it live
 abbrev pub is_live_after : List Turn → ℕ → Bool
 is_live_after [] id = false
 is_live_after (allocates other size ips ∷ before) id = if other == id then true

@@ -5,8 +5,8 @@ use Rattle.std.specs.Prelude.{◌≡◌, ℕ, ◌≤◌, true, false, Bool, leng
 use Rattle.record_book.specs.Actions.{events_at, times}
 use Rattle.record_book.specs.BookState.{HasStepped, Recording}
 
--- one hold of a thread: at most 64 of its turns and no other's. Where more may be left it has 64, and else the thread has
--- taken all turns of its script
+-- one hold of a thread: at most 64 of its turns and no other's. Where more may be left it has 64,
+-- and else the thread has taken all turns of its script
 pub record IsHold (old new : Recording) (thread : ℕ) (more : Bool) : Type 0 where
   pub count : ℕ
   pub few : count ≤ 64

@@ -14,7 +14,8 @@ use Rattle.record_book.specs.HeapState.{AreOnly, entry_in}
 use Rattle.record_book.proofs.Laws.{address-some, entry-allocated, entry-apart, entry-next, entry-released}
 use Rattle.record_book.proofs.Laws.{held-without, held_in, same}
 
--- where a live block lies: its address stands for a raw block of its size, whose node has its stack. Where none lies, there is none
+-- where a live block lies: its address stands for a raw block of its size, whose node has its
+-- stack. Where none lies, there is none
 abbrev pub StandsAt : (ℕ → List ℕ) → List Content → Option LiveEntry → Option Held → Type 0
 StandsAt stack_at said None None = Unit {0}
 StandsAt stack_at said (Some entry) (Some own) =
@@ -110,7 +111,8 @@ live-freed stack_at said places blocks thread id own live only here = record {
             (true≢false (sym (entry-apart places thread id t i here.entry e live.only here.lies is first) ∙ other))
 
     by : (t i : ℕ) (b : Bool) → same thread id t i ≡ b
-        → StandsAt stack_at (said ++ raw_free_line (address_of thread id places) ∷ []) (cond b None (entry_in places t i))
+        → StandsAt stack_at (said ++ raw_free_line (address_of thread id places) ∷ [])
+        (cond b None (entry_in places t i))
         (cond b None (held_in blocks t i))
     by t i true p = tt
     by t i false p =
@@ -144,7 +146,8 @@ live-allocated stack_at said places blocks thread id size trace ips live named l
 }
   where
     own : (block : RawBlock) (b : Bool) → b ≡ true
-        → cond {A = Option RawBlock} b (Some block) (held said (next_address (class_of size) (released thread id places)))
+        → cond {A = Option RawBlock} b (Some block)
+        (held said (next_address (class_of size) (released thread id places)))
         ≡ Some block
     own block true p = refl
     own block false p = absurd (true≢false (sym p))

@@ -21,7 +21,8 @@ use Rattle.record_book.specs.Figures.{every, held_after, without, weigh, bytes_h
 use Rattle.record_book.specs.TallyState.{size_in}
 use Rattle.record_book.proofs.Laws.{bytes-split, count-split}
 
--- no event is a clock value, and the sums of the events are those of the actions: what is live and what was freed are all
+-- no event is a clock value, and the sums of the events are those of the actions: what is live and
+-- what was freed are all
 pub record AreEventsOf (events : List Event) (acts : List Action) : Type 0 where
   pub counted_are : counted events ≡ events
   pub count : event_count events ≡ length acts

@@ -30,8 +30,8 @@ use Rattle.sound_recordings.proofs.Readable.{IsReadable, all-append}
 use Rattle.sound_recordings.proofs.Said.{before_event, event_said, node_said, nodes_said, summary_said, switch_said}
 use Rattle.sound_recordings.proofs.Said.{thread_said, trace_said}
 
--- an event after actions that are listed from the last to the first: the block of an allocation isn't live, and it is within its
--- bounds; that of a free is live
+-- an event after actions that are listed from the last to the first: the block of an allocation
+-- isn't live, and it is within its bounds; that of a free is live
 abbrev pub Plays : List Action → ℕ → Event → Type 0
 Plays before thread (allocation id size ips) =
     (size_in (held_after before) thread id ≡ None) × (size ≤ 2 ^ 32) × (length ips ≤ 256) × AreWords ips

@@ -20,7 +20,8 @@ use Rattle.ht_trace.specs.TraceLists.{pattern_in, patterns}
 use Rattle.interpret.specs.RawContents.{IsRaw, contents, version_of}
 use Rattle.record_book.proofs.Laws.{line-of}
 
--- a line of a raw trace of file version 2 says this: it has no line feed, is no longer than what can be read, and suppresses nothing
+-- a line of a raw trace of file version 2 says this: it has no line feed, is no longer than what
+-- can be read, and suppresses nothing
 pub record IsReadable (said : Content) : Type 0 where
   pub writable : IsWritable Raw 2 said
   pub one_line : HasOneLineTexts said

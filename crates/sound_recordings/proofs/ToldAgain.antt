@@ -155,7 +155,8 @@ nodes-quiet known (ip ∷ outer) =
     (nodes-quiet known outer) (by (number_in (with_suffixes known outer) (ip ∷ outer) == 0))
   where
     by : (b : Bool)
-        → AllByRecursion IsEventless (if b then (node_line ip (number_in (with_suffixes known outer) outer) ∷ []) else [])
+        → AllByRecursion IsEventless (if b then (node_line ip (number_in (with_suffixes known outer) outer) ∷ []) else
+        [])
     by true = (tt, tt)
     by false = tt
 

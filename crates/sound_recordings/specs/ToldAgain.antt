@@ -30,8 +30,8 @@ use Rattle.record_scripts.specs.Playable.{IsPlayable}
 use Rattle.record_scripts.specs.Turns.{Turn}
 use Rattle.sound_recordings.specs.StackFigures.{allocated_at, calls_at, freed_at, frees_at}
 
--- what `summary` tells of a trace of these events is what the summary of a recording tells, which has nothing of temporary allocations
--- and no moment of the peak
+-- what `summary` tells of a trace of these events is what the summary of a recording tells, which
+-- has nothing of temporary allocations and no moment of the peak
 pub record TellSame (told : List Event) (scripts : List (List Turn)) (order : List ℕ) : Type 0 where
   pub events : (trace.summary_of told).totals.events ≡ (recording.summary_of scripts order).events
   pub calls : (trace.summary_of told).totals.calls ≡ (recording.summary_of scripts order).calls
@@ -45,8 +45,8 @@ pub record TellSame (told : List Event) (scripts : List (List Turn)) (order : Li
 abbrev pub is_at : List (List ℕ) → (List (Option ℕ) → Bool) → ℕ → Bool
 is_at lines counted stack = counted (interpreted_ips (contents lines) stack)
 
--- at the stacks that are counted, a trace of these lines has the calls and the bytes of the recording; and what it frees there, with
--- what the recording leaves live, is what it allocates
+-- at the stacks that are counted, a trace of these lines has the calls and the bytes of the
+-- recording; and what it frees there, with what the recording leaves live, is what it allocates
 pub record TellStacks (lines : List (List ℕ)) (scripts : List (List Turn)) (order : List ℕ)
     (counted : List (Option ℕ) → Bool) : Type 0 where
   pub calls : calls_at (is_at lines counted) (events lines)
@@ -66,8 +66,9 @@ pub record AreRead (lines : List (List ℕ)) : Type 0 where
   pub end : end_fault lines ≡ None
   pub event_fault : gathered fault_of [] (events lines) ≡ []
 
--- what is told of lines that scripts were recorded in, in this order, once they are interpreted: all figures and those at any stacks
--- are the recording's; and where the texts of the symbols are frames, as those of a file are, the trace is read without a fault
+-- what is told of lines that scripts were recorded in, in this order, once they are interpreted:
+-- all figures and those at any stacks are the recording's; and where the texts of the symbols are
+-- frames, as those of a file are, the trace is read without a fault
 pub record TellAgain (lines : List (List ℕ)) (scripts : List (List Turn)) (order : List ℕ)
     (symbols : List Symbol) : Type 0 where
   pub figures : TellSame (events (interpreted_trace symbols lines)) scripts order
@@ -75,8 +76,9 @@ pub record TellAgain (lines : List (List ℕ)) (scripts : List (List Turn)) (ord
       → TellStacks (interpreted_trace symbols lines) scripts order counted
   pub read : AllByRecursion HasFrames symbols → AreRead (interpreted_trace symbols lines)
 
--- without symbols, no line of these bytes has a fault in an interpretation, nor has their end; none is longer than what can be read; and
--- with any symbols by which none has a fault, the interpreted trace tells what scripts do that are recorded in this order
+-- without symbols, no line of these bytes has a fault in an interpretation, nor has their end; none
+-- is longer than what can be read; and with any symbols by which none has a fault, the interpreted
+-- trace tells what scripts do that are recorded in this order
 pub record IsToldAgain (bytes : List ℕ) (scripts : List (List Turn)) (order : List ℕ) : Type 0 where
   pub no_fault : gathered (raw_fault []) [] (lines_of bytes) ≡ []
   pub end : raw_end_fault (lines_of bytes) ≡ None

@@ -90,7 +90,8 @@ module _ (sizes : Sizes) (some : 1 ≤ sizes.stacks) (most : sizes.stacks ≤ 40
           no_fault = rw (lt-ltb info (length tables.infos) (omega (arith, info_below k, before.0.infos_are))) refl;
           event = Some (Alloc info found.stack found.size);
           brings =
-              ap (λ held. event_of (event_step (option_map (λ (held : HeldInfo). Alloc info held.stack held.size) held)))
+              ap (λ held. event_of (event_step (option_map
+              (λ (held : HeldInfo). Alloc info held.stack held.size) held)))
               is;
           no_event_fault =
               rw (le-ltb (2 ^ 62) (allocated_bytes taken + found.size) (omega (arith, before.1.bytes, fits, few))) refl;

@@ -14,7 +14,8 @@ use Rattle.ht_trace.specs.LineFault.{growth_fault}
 use Rattle.ht_trace.specs.TableState.{TableState}
 use Rattle.ht_trace.proofs.Laws.{frame_count_of-more}
 
--- each instruction has one frame, the stack of a node has no more frames than its number says, and infos have at most 4,096 bytes
+-- each instruction has one frame, the stack of a node has no more frames than its number says, and
+-- infos have at most 4,096 bytes
 pub record Held (strings instructions nodes infos : ℕ) (tables : TableState) : Type 0 where
   pub strings_are : length tables.strings ≡ strings
   pub instructions_are : length tables.instructions ≡ instructions

@@ -71,7 +71,8 @@ module _ (back : (n : ℕ) → n < 2 ^ 64 → parsed_hex (hexadecimal n) ≡ Som
         record {
           tables = state_after tables said;
           stands =
-              stands-push tables (state_after tables said) said (step_in tables.infos said) line may read takes [] earlier
+              stands-push tables (state_after tables said) said
+              (step_in tables.infos said) line may read takes [] earlier
               stands;
           version = follows.version;
           holds = subst (Q (state_after tables said)) (sym after) follows.holds;

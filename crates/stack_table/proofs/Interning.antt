@@ -56,12 +56,14 @@ pub interned-more : (old : List Node) (outer : List ℕ) (new newer : List Node)
     → IsInterned old (ip ∷ outer) newer number
 interned-more old outer new newer ip parent number before interned no_fault stack_is within continues one_more
     law = record {
-      interned = ap (λ (found : Interned). node_interned found.nodes (called ip found.number)) before.interned ∙ interned;
+      interned = ap (λ (found : Interned). node_interned found.nodes (called ip found.number)) before.interned
+          ∙ interned;
       no_fault =
           ap (λ (fault : Option NodeFault). option_or fault
           (node_interned_fault (stack_interned old outer).nodes (called ip (stack_interned old outer).number)))
           before.no_fault
-          ∙ ap (λ (found : Interned). node_interned_fault found.nodes (called ip found.number)) before.interned ∙ no_fault;
+          ∙ ap (λ (found : Interned). node_interned_fault found.nodes (called ip found.number)) before.interned
+          ∙ no_fault;
       stack_is = stack_is ∙ ap (λ (ips : List ℕ). ip ∷ ips) (continues.stacks parent before.within ∙ before.stack_is);
       within = within;
       continues = Continues-trans old new newer before.continues continues;

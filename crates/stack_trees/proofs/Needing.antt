@@ -156,7 +156,8 @@ pub StandFor-needed : (style : Style) (tables : TableState) (costs : List ℕ) (
     → StandFor FromAllocation style tables costs depth fronts
 StandFor-needed style tables costs depth fronts as_many is = record {
   count =
-      ap (λ (ls : List (List (List ℕ))). length ls) is ∙ needed_lists-count FromAllocation style tables (depth + 1) costs
+      ap (λ (ls : List (List (List ℕ))). length ls) is ∙ needed_lists-count FromAllocation style tables
+      (depth + 1) costs
       ∙ sym as_many;
   tree =
       λ tree tree_of. IsTreeOf-needed tree FromAllocation style tables depth costs

@@ -16,7 +16,8 @@ allocated info moves = count_by (λ move. (move.info == info) && not move.frees)
 abbrev pub freed : ℕ → List Move → ℕ
 freed info moves = count_by (λ move. (move.info == info) && move.frees) moves
 
--- the event behind so many earlier ones: its info and its kind are drawn, and it is a free only where that info has a live block
+-- the event behind so many earlier ones: its info and its kind are drawn, and it is a free only
+-- where that info has a live block
 abbrev pub next_move : Sizes → ℕ → List Move → Move
 next_move sizes number earlier =
     let info : ℕ = draw sizes.seed (2 * sizes.stacks + 2 * number) sizes.stacks in

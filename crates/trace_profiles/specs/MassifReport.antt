@@ -23,8 +23,8 @@ massif_written settings patterns lines = massif_text
     (sampled settings.options settings.names (tables_behind patterns lines) (events lines)
     (command_in (tables_behind patterns lines)))
 
--- the fault of an event after earlier ones, by the tables with its line: that of the ledger, or else that its gross bytes or
--- its time are too many
+-- the fault of an event after earlier ones, by the tables with its line: that of the ledger, or
+-- else that its gross bytes or its time are too many
 unfoldable pub sampler_faults : MassifSettings → EventFaults
 sampler_faults settings tables earlier event = sample_fault settings.options
     (ignores tables settings.names) earlier event

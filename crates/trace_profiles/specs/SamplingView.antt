@@ -34,8 +34,8 @@ pub record StandFor {A I : Type 0} (settings : MassifSettings) (ledger : LedgerS
   pub sampling : sample_spec.StandsFor sampler.judged.items sampler.samples settings.names tables
       events
 
--- the sampler's tests are such as mean the names of the settings, it has their options, and has taken account of the stacks that
--- the ledger holds
+-- the sampler's tests are such as mean the names of the settings, it has their options, and has
+-- taken account of the stacks that the ledger holds
 pub record IsSettled {A I : Type 0} (settings : MassifSettings)
     (means : FrameTest A → FrameTest I → Type 0) (ledger : LedgerState) (sampler : Sampler A I)
     : Type 0 where

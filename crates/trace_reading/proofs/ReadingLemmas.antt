@@ -83,7 +83,8 @@ new_read now follower given fresh stands = record {
   stands = fresh.stands;
 }
 
--- where no patterns were given before, what is made of a trace is that of its lines alone, by the writer that was handed in
+-- where no patterns were given before, what is made of a trace is that of its lines alone, by the
+-- writer that was handed in
 pub new_report : {W : Type 0} (faults : EventFaults) (text : W → List (List ℕ) → List (List ℕ) → List ℕ)
     (before : List (List ℕ)) (now : TableState) (given handed : W)
     → StandsFor now [] → before ≡ now.patterns

@@ -226,7 +226,8 @@ module _ (faults : EventFaults) (old : TableState) (follower : Following) (now :
         λ patterns earlier has. subst (λ l. HasRead now here patterns (earlier ++ l)) (all none)
         (so_far.read patterns earlier has);
     good =
-        λ patterns earlier has. subst (HaveNoFault faults patterns earlier) (all none) (so_far.good patterns earlier has);
+        λ patterns earlier has. subst (HaveNoFault faults patterns earlier) (all none)
+        (so_far.good patterns earlier has);
   }
 
   -- the rest was refused

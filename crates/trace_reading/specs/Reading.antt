@@ -18,8 +18,8 @@ use Rattle.trace_reading.specs.TraceReport.{EventFaults, HaveNoFault, content_fa
 abbrev pub weight_of : TableState → Following → ℕ
 weight_of tables follower = 4 * follower.ledger.totals.events + length tables.nodes
 
--- the follower has the stacks and infos of the tables and stands for some events beside them, and the lines may be those of
--- a file
+-- the follower has the stacks and infos of the tables and stands for some events beside them, and
+-- the lines may be those of a file
 pub record IsSound (tables : TableState) (follower : Following) : Type 0 where
   pub beside : IsBeside tables follower.ledger
   pub follower_sound : follower.sound
@@ -27,7 +27,8 @@ pub record IsSound (tables : TableState) (follower : Following) : Type 0 where
   pub stands : follower.stands tables taken
   pub few : weight_of tables follower ≤ 2 ^ 34 + 1
 
--- the tables stand for these lines, behind texts of suppressions that have the patterns, and the follower for their events
+-- the tables stand for these lines, behind texts of suppressions that have the patterns, and the
+-- follower for their events
 pub record HasRead (tables : TableState) (follower : Following) (patterns lines : List (List ℕ))
     : Type 0 where
   pub given : List (List ℕ)
@@ -52,8 +53,9 @@ pub record HasReadLine (faults : EventFaults) (tables : TableState) (follower : 
   pub read : (patterns lines : List (List ℕ)) → HasRead tables follower patterns lines
       → HasRead grown grown_follower patterns (lines ++ line ∷ [])
 
--- an answer of so many bytes says that the first line of these bytes is that of an event, and was read without a fault, and
--- no answer that none was read. Whatever is written of the trace, the line gives nothing
+-- an answer of so many bytes says that the first line of these bytes is that of an event, and was
+-- read without a fault, and no answer that none was read. Whatever is written of the trace, the
+-- line gives nothing
 pub record HasReadFirst (faults : EventFaults) (tables : TableState) (old new : Following)
     (ready : List ℕ) (answer : Option ℕ) : Type 0 where
   pub sound : IsSound tables new

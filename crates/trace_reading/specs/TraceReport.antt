@@ -42,8 +42,8 @@ abbrev pub fault_among : EventFaults → TableState → List Event → Option Ev
 fault_among faults tables earlier None = None
 fault_among faults tables earlier (Some taken) = faults tables earlier taken
 
--- the fault of what a line of a trace says after earlier lines: the tables judge first, and then, by the tables with it, what
--- follows the events
+-- the fault of what a line of a trace says after earlier lines: the tables judge first, and then,
+-- by the tables with it, what follows the events
 abbrev pub content_fault : EventFaults → List (List ℕ) → List (List ℕ) → List ℕ → Option Told
 content_fault faults patterns earlier line =
     option_or (option_map (λ error. told (Line error))

@@ -83,7 +83,8 @@ module _ (old : Trace PeakTotalsState) (before after : Generator) (lines : List 
     sound = read.sound;
     taken = taken.taken ++ made.lines;
     read =
-        subst (λ more. HasRead totals_view new [] (taken.taken ++ more)) lines_are (read.read [] taken.taken taken.read);
+        subst (λ more. HasRead totals_view new [] (taken.taken ++ more)) lines_are
+        (read.read [] taken.taken taken.read);
     split =
         taken.split
         ∙ (ap (λ more. taken.taken ++ more) made.split ∙ sym (append_assoc taken.taken made.lines (lines_yet after)));

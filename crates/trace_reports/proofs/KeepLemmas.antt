@@ -218,8 +218,11 @@ good-lines bounds report total number earlier (line ∷ lines) inside none =
     good-lines bounds report total (number + 1) (earlier ++ line ∷ []) lines (omega (arith, inside, count, push))
     first.1 in
     record {
-      short =
-          (within bounds total (bytes_of_lines earlier) (length line) (omega (arith, inside, count)) parts.0, rest.short);
+      short = (
+        within bounds total (bytes_of_lines earlier) (length line)
+            (omega (arith, inside, count)) parts.0,
+        rest.short,
+      );
       no_fault =
           ap (λ (o : Option Told). option_to_list o ++ gathered report.line_fault (earlier ++ line ∷ []) lines) parts.1
           ∙ rest.no_fault;

@@ -1,4 +1,5 @@
--- What standard output gets of `interpret`: lines with the ledger and the stacks of the raw trace, after every line of it.
+-- What standard output gets of `interpret`: lines with the ledger and the stacks of the raw trace,
+-- after every line of it.
 use Rattle.std.specs.Prelude.{◌≡◌, ℕ, List, [], ◌++◌, count_by, sum_by, map, take, Option, Some, None, unwrap_or}
 use Rattle.hp_outside.specs.Folder.{Folder, file_of}
 use Rattle.hp_outside.specs.Lines.{lines_of}
@@ -22,8 +23,9 @@ abbrev pub symbols_in : Folder → Option (List ℕ) → List Symbol
 symbols_in folder None = []
 symbols_in folder (Some name) = symbols_of (lines_in folder name)
 
--- the output is the interpretation of raw lines with these symbols; read as an interpreted trace, it leaves at every node the
--- bytes and the blocks live that the raw lines do, and every node has the instruction pointers outwards that it has there
+-- the output is the interpretation of raw lines with these symbols; read as an interpreted trace,
+-- it leaves at every node the bytes and the blocks live that the raw lines do, and every node has
+-- the instruction pointers outwards that it has there
 pub record KeepsTrace (symbols : List Symbol) (lines : List (List ℕ)) (output : List ℕ) : Type
     0 where
   pub text : output ≡ text_of (interpreted_trace symbols lines)

@@ -7,6 +7,7 @@ returns c = λ job order can. record {
       told-trace c.hexadecimal_texts.ensures.reads_back c.interpreted_traces.ensures job order can.playable can.modules
       can.under;
   summary =
-      told-summary c.hexadecimal_texts.ensures.reads_back c.interpreted_traces.ensures job order can.playable can.modules
+      told-summary c.hexadecimal_texts.ensures.reads_back c.interpreted_traces.ensures job order can.playable
+      can.modules
       can.under;
 }

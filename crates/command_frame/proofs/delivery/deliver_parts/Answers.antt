@@ -9,7 +9,8 @@ returns-then-is_ok-3 g c =
     record {
       whole = search rules;
       fronts =
-          fronts_later (λ rose. omega (arith, rose, flushed_out.faults)) (λ rose. omega (arith, rose, flushed_err.faults))
+          fronts_later (λ rose. omega (arith, rose, flushed_out.faults))
+          (λ rose. omega (arith, rose, flushed_err.faults))
           flushed_out.kept flushed_err.kept (c.write_both-wrote.ensures.fronts c.args.status);
       own_message = search rules;
       kept = search rules;
@@ -26,7 +27,8 @@ returns-else-is_ok g c =
     record {
       whole = search rules;
       fronts =
-          fronts_later (λ rose. omega (arith, rose, flushed_out.faults)) (λ rose. omega (arith, rose, flushed_err.faults))
+          fronts_later (λ rose. omega (arith, rose, flushed_out.faults))
+          (λ rose. omega (arith, rose, flushed_err.faults))
           flushed_out.kept flushed_err.kept (c.write_both-wrote.ensures.fronts c.args.status);
       own_message = search rules;
       kept = search rules;

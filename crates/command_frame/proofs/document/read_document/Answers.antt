@@ -38,7 +38,8 @@ returns-in-Ok-read_whole-clause-read g c =
     let opens = c.open.ensures in
     let whole = c.read_whole.ensures in
     let ended =
-    document_given (texts_of c.args.context.now.texts) (bounds_of c.args.context.now.limits) (store.files c.args.store.now)
+    document_given (texts_of c.args.context.now.texts) (bounds_of c.args.context.now.limits)
+    (store.files c.args.store.now)
     c.args.name.now
     (moment (store.opens c.args.store.now) (store.current c.args.store.now) (store.left c.args.store.now)
     (store.faults c.args.store.now))
@@ -47,7 +48,11 @@ returns-in-Ok-read_whole-clause-read g c =
     (store.left c.open.new.self) c.in-Ok-read_whole.bytes c.in-Ok.ensures.left c.in-Ok.ensures.found
     (subst (λ result. WhereTold (store.left c.open.new.self)
     (λ bytes. WholeAnswer c.args.context.now.limits.input bytes result)) c.in-Ok-read_whole.is whole.answer)
-    (record { opens = whole.reads.opens ∙ opens.opens; current_is = whole.reads.current ∙ (opens.current ∙ ap is_ok c.in-Ok.is) })
+    (record {
+      opens = whole.reads.opens ∙ opens.opens;
+      current_is = whole.reads.current ∙
+          (opens.current ∙ ap is_ok c.in-Ok.is);
+    })
     (whole.sound (λ is. absurd (cc)) ∙ c.in-Ok.ensures.sound) c.in-Ok-read_whole.ensures.ended in
     record {
       end = ended.0;
@@ -72,7 +77,11 @@ returns-in-Err-read_whole-clause-read g c =
     (store.left c.open.new.self) c.in-Err-read_whole.fault c.unread.result c.in-Ok.ensures.left c.in-Ok.ensures.found
     (subst (λ result. WhereTold (store.left c.open.new.self)
     (λ bytes. WholeAnswer c.args.context.now.limits.input bytes result)) c.in-Err-read_whole.is whole.answer)
-    (record { opens = whole.reads.opens ∙ opens.opens; current_is = whole.reads.current ∙ (opens.current ∙ ap is_ok c.in-Ok.is) })
+    (record {
+      opens = whole.reads.opens ∙ opens.opens;
+      current_is = whole.reads.current ∙
+          (opens.current ∙ ap is_ok c.in-Ok.is);
+    })
     (λ is. subst (λ n. Faulted n (store.faults c.read_whole.new.store)) c.in-Ok.ensures.sound
     (whole.failed (c.in-Err-read_whole.is ∙ ap Err is)))
     (λ other. whole.sound (λ is. other (cc)) ∙ c.in-Ok.ensures.sound) c.unread.ensures.answer c.unread.ensures.memory in

@@ -16,7 +16,8 @@ returns-in-Err-clause-read g c =
     let store = g.S.Store in
     let opens = c.open.ensures in
     let ended =
-    unopened_end (texts_of c.args.context.now.texts) (bounds_of c.args.context.now.limits) (store.files c.args.store.now)
+    unopened_end (texts_of c.args.context.now.texts) (bounds_of c.args.context.now.limits)
+    (store.files c.args.store.now)
     c.args.name.now (g.T.LineTaker.report c.args.taker.now) (g.T.LineTaker.has_taken c.args.taker.now)
     (moment (store.opens c.args.store.now) (store.current c.args.store.now) (store.left c.args.store.now)
     (store.faults c.args.store.now))

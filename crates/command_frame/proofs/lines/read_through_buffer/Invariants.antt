@@ -1,5 +1,5 @@
--- The lines so far were taken whole and without a fault, the rest of the file is what the reader keeps and the store has left,
--- and what the lines gave was written but for what is kept back.
+-- The lines so far were taken whole and without a fault, the rest of the file is what the reader
+-- keeps and the store has left, and what the lines gave was written but for what is kept back.
 use Rattle.std.proofs.Common.{◌≡◌, ◌+◌, ◌-◌, ◌≤◌, [], None, true}
 use Rattle.hp_outside.specs.Taken.{WhereTold}
 use Rattle.command_frame.proofs.LinesLoop.{Reading, bounds_at}

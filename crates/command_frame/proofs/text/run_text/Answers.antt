@@ -59,7 +59,8 @@ returns-in-Ok-false g c = λ store. record {
 pub returns-in-Err : goal.returns-in-Err
 returns-in-Err g c = λ store. record {
   ran = λ last.
-      no_more_made (texts_of c.args.context.now.texts) (bounds_of c.args.context.now.limits) store.files last store.moment
+      no_more_made (texts_of c.args.context.now.texts)
+      (bounds_of c.args.context.now.limits) store.files last store.moment
       (g.O.Sink.written c.args.out.now) (g.O.Sink.written c.pieces.out) c.pieces.buffer.items
       (g.M.TextMaker.rest c.pieces.maker) (g.M.TextMaker.rest c.args.maker.now)
       (halt_answer (texts_of c.args.context.now.texts) c.no_memory.result) c.pieces.invariant.making

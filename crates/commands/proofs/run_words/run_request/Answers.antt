@@ -18,7 +18,8 @@ returns-in-Help g c =
     (plan_of (asked_of request)) store store out out c.held.result) (sym
     c.in-Help.is)
     (runs_as _ _ _ _ _ _ _ _ _ c.held.ensures
-    (subst (λ (texts : Texts). RunsTo c.args.context.now [] (Ends (Writes texts.usage)) store store out out c.usage.result)
+    (subst (λ (texts : Texts). RunsTo c.args.context.now []
+    (Ends (Writes texts.usage)) store store out out c.usage.result)
     c.requires.texts (c.usage.ensures store out)))
 
 pub returns-in-Summary : goal.returns-in-Summary

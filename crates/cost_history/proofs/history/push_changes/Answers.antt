@@ -14,7 +14,8 @@ loop-i-init g c = record {
   room = (let ok = c.in_ok-reserve.ensures.ok in omega arith);
   pushed = λ costs says. c.reserve.ensures.items ∙ sym (append-nil c.args.changes.now.items);
   between =
-      λ all last held up was. subst (λ (xs : List Change). IsBetween all 0 xs c.args.place) (sym c.reserve.ensures.items)
+      λ all last held up was. subst (λ (xs : List Change). IsBetween all 0 xs c.args.place)
+      (sym c.reserve.ensures.items)
       (between-raise all 0 c.args.changes.now.items last c.args.place up was);
 }
 
@@ -28,7 +29,8 @@ loop-i-preserved g c =
           (record { place = c.args.place; stack = c.candidate-stack.result; cost = c.cost.result }) in let same = ap
           (λ (xs : List Change). length xs) c.push_reserved.ensures.items in omega arith);
       room =
-          (let was = c.loop-i.invariant.room in let long = c.push_reserved.ensures.len in let cap = c.push_reserved.ensures.capacity in let test = c.loop-i-test.true in omega
+          (let was = c.loop-i.invariant.room in let long = c.push_reserved.ensures.len in let cap =
+          c.push_reserved.ensures.capacity in let test = c.loop-i-test.true in omega
           arith);
       pushed = λ costs says.
           c.push_reserved.ensures.items

@@ -43,6 +43,7 @@ returns c =
         node = c.each_node.place;
         way = c.each_node.invariant;
         number =
-            slice_get-get_or numbered c.each_node.place 0 (omega (arith, c.requires.count)) ∙ ap (λ (k : ℕ). Some k) back;
+            slice_get-get_or numbered c.each_node.place 0 (omega (arith, c.requires.count)) ∙ ap
+            (λ (k : ℕ). Some k) back;
       };
     }

@@ -53,14 +53,16 @@ returns-else-is_in_range-clause-outlined c =
     ap (λ k. value_ahead 126 (token_of k ∷ ts)) c.in-Number.is
     ∙ number_out 126 _ ts (sym c.is_in_range.ensures ∙ c.if-is_in_range.false)
 
-pub returns-in_err-pass_items-in-BeginArray-clause-outlined : goal.returns-in_err-pass_items-in-BeginArray-clause-outlined
+pub returns-in_err-pass_items-in-BeginArray-clause-outlined :
+    goal.returns-in_err-pass_items-in-BeginArray-clause-outlined
 returns-in_err-pass_items-in-BeginArray-clause-outlined c =
     let ts = c.args.reader.now in
     let p = err_from_is_err_and c.from_residual.result c.from_residual.ensures.1 in
     rw p.1 (ap (λ k. value_ahead 126 (token_of k ∷ ts)) c.in-BeginArray.is
     ∙ no_array 126 ts (omega arith) c.in_err-pass_items-in-BeginArray.ensures.passed)
 
-pub returns-in_err-pass_members-in-BeginObject-clause-outlined : goal.returns-in_err-pass_members-in-BeginObject-clause-outlined
+pub returns-in_err-pass_members-in-BeginObject-clause-outlined :
+    goal.returns-in_err-pass_members-in-BeginObject-clause-outlined
 returns-in_err-pass_members-in-BeginObject-clause-outlined c =
     let ts = c.args.reader.now in
     let p =
@@ -77,7 +79,8 @@ returns-in_ok-pass_items-in-BeginArray-clause-outlined c =
     ∙ hollow_array 126 ts r (omega arith) c.in_ok-pass_items-in-BeginArray.ensures.passed
     ∙ ap (λ d. Some (d, r)) (sym (empty_list c.new.result c.new.ensures.items))
 
-pub returns-in_ok-pass_members-in-BeginObject-clause-outlined : goal.returns-in_ok-pass_members-in-BeginObject-clause-outlined
+pub returns-in_ok-pass_members-in-BeginObject-clause-outlined :
+    goal.returns-in_ok-pass_members-in-BeginObject-clause-outlined
 returns-in_ok-pass_members-in-BeginObject-clause-outlined c =
     let ts = c.args.reader.now in
     let r = c.pass_members.new.reader in

@@ -107,7 +107,8 @@ returns g c =
     let told = g.S.Store.files c.args.store.now in
     record {
       read =
-          front_behind c.args.context.now all _ (shown g.S.Store c.args.store.now) mid mid (taken g.O.Sink c.args.out.now)
+          front_behind c.args.context.now all _ (shown g.S.Store c.args.store.now) mid mid
+          (taken g.O.Sink c.args.out.now)
           out out _
           (no_script texts bounds told all c.each_name.scripts before mid.moment
           (subst

@@ -42,7 +42,8 @@ returns-in_ok-record_text-in-Record g c =
     subst (λ (task : Task). WordsRecord IsRecorded (bounds_of c.args.context.now.limits) limit
     (Some (asks modules scripts task)) before now old new (done c.in_ok-record_text-in-Record.field-0.items)) (sym
     (ap task_by c.in-Record.is))
-    (asked_done IsRecorded c.args.context.now limit modules scripts c.in-Record.summary before now old new c.in-Ok.scripts
+    (asked_done IsRecorded c.args.context.now limit modules scripts c.in-Record.summary before now old new
+    c.in-Ok.scripts
     c.in_ok-record_text-in-Record.field-0.items c.requires.texts
     (subst (λ (names : List (Bor (List ℕ))). FrontRead c.args.context.now
     (files_front modules (map (λ name. name.now) names) (no_job limit)) before now old new
@@ -91,7 +92,8 @@ returns-in-Check g c =
     subst (λ (task : Task). WordsRecord IsRecorded (bounds_of c.args.context.now.limits) limit
     (Some (asks modules scripts task)) before now old new (rest_of heaprec_texts c.check_trace.result)) (sym
     (ap task_by c.in-Check.is))
-    (asked_checked IsRecorded c.args.context.now limit modules scripts c.in-Check.trace.now before mid now old between new
+    (asked_checked IsRecorded c.args.context.now limit modules scripts c.in-Check.trace.now before mid now old between
+    new
     job c.check_trace.result c.requires.texts
     (c.front_laws.ensures job few (c.quiet_modules.ensures job.modules c.modules-modules.ensures.whole))
     (subst (λ (names : List (Bor (List ℕ))). FrontRead c.args.context.now

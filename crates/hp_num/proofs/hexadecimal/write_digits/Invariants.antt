@@ -1,5 +1,5 @@
--- The text of what is left, followed by what stands from the digits written so far on, is the text of the number and what stood
--- behind its place.
+-- The text of what is left, followed by what stands from the digits written so far on, is the text
+-- of the number and what stood behind its place.
 use Rattle.std.proofs.Common.{◌≡◌, ◌<◌, ◌≤◌, ◌+◌, ◌^◌, ◌++◌, length, drop}
 use Rattle.hp_num.specs.Hexadecimal.{hexadecimal}
 use Rattle.hp_num.proofs.hexadecimal.write_digits.Given as goal

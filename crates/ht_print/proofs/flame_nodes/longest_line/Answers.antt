@@ -39,7 +39,8 @@ each_node-preserved c =
     record {
       some = omega arith;
       lengths =
-          lengths-push fronts c.each_node.lengths.items c.push-in-each_node.new.self.items n c.in_ok-length.length within
+          lengths-push fronts c.each_node.lengths.items c.push-in-each_node.new.self.items n c.in_ok-length.length
+          within
           now.lengths c.in_ok-push-2.ensures.items is;
       bounded = All-more (λ texts. line_bytes texts ≤ c.max-longest.result) fronts n [] within
           (All-weaker (λ texts. line_bytes texts ≤ c.each_node.longest)

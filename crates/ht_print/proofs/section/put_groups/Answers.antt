@@ -57,7 +57,8 @@ each_group-preserved c =
           group.figure)
           members);
       kept =
-          extends_trans c.args.out.now.items c.each_group.out.items c.put_group.new.out.items c.each_group.invariant.kept
+          extends_trans c.args.out.now.items c.each_group.out.items c.put_group.new.out.items
+          c.each_group.invariant.kept
           c.put_group.ensures.kept;
     }
 

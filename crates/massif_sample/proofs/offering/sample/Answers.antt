@@ -13,5 +13,6 @@ returns-then-taken-eq0-clause-sampling g c =
     let offer_is =
     offer-now c.args.samples.now.options (ignores c.args.stacks.now.tables.now names) events c.args.samples.now.running
     c.args.as_peak was.figures in
-    subst (λ (o : Offer). IsSampling c.args.samples.now names c.args.stacks.now.tables.now events (made ++ o ∷ [])) offer_is
+    subst (λ (o : Offer). IsSampling c.args.samples.now names c.args.stacks.now.tables.now events (made ++ o ∷ []))
+    offer_is
     (c.judge-taken.ensures.passed none names c.args.stacks.now.tables.now events made was)

@@ -23,7 +23,8 @@ returns-then-taken-eq1-clause-sampling g c =
     let offer_is =
     offer-now c.args.samples.now.options (ignores c.args.stacks.now.tables.now names) events c.args.samples.now.running
     c.args.as_peak was.figures in
-    subst (λ (o : Offer). IsSampling c.take.new.self names c.args.stacks.now.tables.now events (made ++ o ∷ [])) offer_is
+    subst (λ (o : Offer). IsSampling c.take.new.self names c.args.stacks.now.tables.now events (made ++ o ∷ []))
+    offer_is
     (c.take.ensures.sampling names c.args.stacks.now.tables.now events made (inl normal) was)
 
 pub returns-in_err-add_fronts-clause-offered : goal.returns-in_err-add_fronts-clause-offered
@@ -38,14 +39,17 @@ returns-in_err-add_fronts-clause-offered g c =
       due = at_err c.from_residual.result
           (λ names events made was.
           let offer_is =
-          offer-now c.args.samples.now.options (ignores c.args.stacks.now.tables.now names) events c.args.samples.now.running
+          offer-now c.args.samples.now.options (ignores c.args.stacks.now.tables.now names) events
+          c.args.samples.now.running
           c.args.as_peak was.figures in
           subst (λ (o : Offer). IsTakenAs c.args.samples.now.options made o (with_tree c.args.as_peak)) offer_is
           (record {
             taken_is =
-                taken-with_tree (settings_of c.args.samples.now.options) (kept_of (settings_of c.args.samples.now.options) made)
+                taken-with_tree (settings_of c.args.samples.now.options)
+                (kept_of (settings_of c.args.samples.now.options) made)
                 (offer_of c.args.samples.now.running c.args.as_peak) c.args.taken
-                (c.requires.due.judged.of_sampling names c.args.stacks.now.tables.now events made was) c.requires.due.some no_normal;
+                (c.requires.due.judged.of_sampling names c.args.stacks.now.tables.now events made was)
+                c.requires.due.some no_normal;
           }));
     }
 
@@ -61,14 +65,17 @@ returns-in_err-keep-clause-offered g c =
       due = at_err c.from_residual-in_err-keep.result
           (λ names events made was.
           let offer_is =
-          offer-now c.args.samples.now.options (ignores c.args.stacks.now.tables.now names) events c.args.samples.now.running
+          offer-now c.args.samples.now.options (ignores c.args.stacks.now.tables.now names) events
+          c.args.samples.now.running
           c.args.as_peak was.figures in
           subst (λ (o : Offer). IsTakenAs c.args.samples.now.options made o (with_tree c.args.as_peak)) offer_is
           (record {
             taken_is =
-                taken-with_tree (settings_of c.args.samples.now.options) (kept_of (settings_of c.args.samples.now.options) made)
+                taken-with_tree (settings_of c.args.samples.now.options)
+                (kept_of (settings_of c.args.samples.now.options) made)
                 (offer_of c.args.samples.now.running c.args.as_peak) c.args.taken
-                (c.requires.due.judged.of_sampling names c.args.stacks.now.tables.now events made was) c.requires.due.some no_normal;
+                (c.requires.due.judged.of_sampling names c.args.stacks.now.tables.now events made was)
+                c.requires.due.some no_normal;
           }));
     }
 
@@ -80,13 +87,15 @@ returns-clause-sampling g c =
     λ names events made texts said was.
     let offer_is =
     ap (λ (r : Running). offer_of r c.args.as_peak) same
-    ∙ offer-now c.args.samples.now.options (ignores c.args.stacks.now.tables.now names) events c.args.samples.now.running
+    ∙ offer-now c.args.samples.now.options (ignores c.args.stacks.now.tables.now names) events
+    c.args.samples.now.running
     c.args.as_peak was.figures in
     let known = c.in_ok-add_fronts.ensures.sampling names events made texts was in
     let here =
     said-as c.stacks.result (length c.args.stacks.now.tables.now.nodes + 1)
     (cost_at (ignores c.args.stacks.now.tables.now names) events (event_count events)) c.stacks.ensures.count said in
     let kept = c.in_ok-keep.ensures.kept names c.args.stacks.now.tables.now events made here known in
-    subst (λ (o : Offer). IsSampling c.take-2.new.self names c.args.stacks.now.tables.now events (made ++ o ∷ [])) offer_is
+    subst (λ (o : Offer). IsSampling c.take-2.new.self names c.args.stacks.now.tables.now events (made ++ o ∷ []))
+    offer_is
     (c.take-2.ensures.sampling names c.args.stacks.now.tables.now events made
     (inr kept.costs) kept.sampling)

@@ -98,7 +98,8 @@ returns-clause-added g c =
           (followed tables names most stack caller c.list_of-2.result outer lists was c.in_ok-caller.ensures.lower
           c.list_of-2.ensures
           (outer-none tables caller)
-          (λ some. outer-is tables caller some ∙ sym (c.lacks_frames.ensures.whole c.if-lacks_frames.false some names are)))
+          (λ some. outer-is tables caller some ∙ sym
+          (c.lacks_frames.ensures.whole c.if-lacks_frames.false some names are)))
           c.in_ok-push_list-3.ensures.appended;
       count = c.in_ok-push_list-3.ensures.count;
     }

@@ -18,7 +18,8 @@ new-ignore_test-requires-clause-stated g c = (
   names_in c.args.profiled.now.settings.now.ignore_fns.now,
   record {
     answer = λ name answer
-        says. (let e = says.shows in let s = says.says in let is = c.in_ok-alloc_fns.ensures.ignore_fns in search rules);
+        says. (let e = says.shows in let s = says.says in let is = c.in_ok-alloc_fns.ensures.ignore_fns in search
+        rules);
   },
 )
 

@@ -94,7 +94,8 @@ returns-clause-cut c =
           ∙ cut.count;
       lengths = cut.lengths;
       lists =
-          c.in_ok-shape.ensures.lists ∙ ap (λ (ks : List ℕ). cut_lists ks whole) (c.deref-7.ensures.value ∙ sym swapped);
+          c.in_ok-shape.ensures.lists ∙ ap (λ (ks : List ℕ). cut_lists ks whole)
+          (c.deref-7.ensures.value ∙ sym swapped);
       some =
           λ k count at. raised-some c.args.scale old.counts.items (map length whole) shared cut.some k count
           (ap (λ (ks : List ℕ). slice_get ks k) (sym is) ∙ at);

@@ -54,6 +54,7 @@ returns-clause-met c =
     let l = c.members in (
       l.invariant.2,
       l.invariant.3
-          ∙ members_over (value 126) l.invariant.2 l.invariant.0 l.reader c.next_key.new.self l.invariant.1 (grind arith),
+          ∙ members_over (value 126) l.invariant.2 l.invariant.0 l.reader c.next_key.new.self l.invariant.1
+          (grind arith),
       l.invariant.4,
     )

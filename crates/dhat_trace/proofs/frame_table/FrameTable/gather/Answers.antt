@@ -58,7 +58,8 @@ outwards-preserved c =
     let some : at ≢ 0 = omega (arith, c.in-Some.ensures.lower) in
     let added = c.in_ok-learn.ensures.added in
     let here = begun_here tables texts at places c.len.result some c.outwards.invariant.held (omega arith) in
-    let next : (segment : Segment) → IsBegun tables texts at places segment → IsBegun tables new caller more segment = λ segment begun.
+    let next : (segment : Segment) → IsBegun tables texts at places segment → IsBegun tables new caller more segment =
+    λ segment begun.
     begun_more tables texts new at instruction caller places own more segment some c.in-Some.ensures.frames added.keeps
     (c.in_ok-learn.ensures.told own c.of.ensures) c.in_ok-extend_from_slice.ensures.items begun in
     record {

@@ -33,7 +33,8 @@ returns-in-Ok-eq0 g c =
         sound = fill.filled.sound;
         more = inl refl;
         end =
-            λ ended. left_at_end _ _ _ _ c.in-Ok-eq0.field-0 c.in-Ok-eq0.field-0-test fill.filled.rest fill.filled.count.1
+            λ ended. left_at_end _ _ _ _ c.in-Ok-eq0.field-0 c.in-Ok-eq0.field-0-test fill.filled.rest
+            fill.filled.count.1
             (fill.filled.end c.in-Ok-eq0.field-0-test);
         end_kept =
             λ ended. kept_whole _ _ c.in-Ok-eq0.field-0 c.in-Ok-eq0.field-0-test fill.filled.front fill.filled.count.1

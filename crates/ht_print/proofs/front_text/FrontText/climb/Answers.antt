@@ -19,7 +19,8 @@ returns-then-at-above-clause-between c = λ n was.
       text_of = was.text_of;
       path_to =
           path-step tree c.args.self.now.path.items c.push_reserved.new.self.items above c.node-parent.result
-          (front_at tree n) c.requires.tree_is some c.node-parent.ensures.node c.push_reserved.ensures.items was.path_to;
+          (front_at tree n) c.requires.tree_is some c.node-parent.ensures.node c.push_reserved.ensures.items
+          was.path_to;
       path_held =
           subst (λ (ns : List ℕ). All (IsBelowRoot tree) ns) (sym c.push_reserved.ensures.items)
           (All-push (IsBelowRoot tree) c.args.self.now.path.items above was.path_held (some, within));

@@ -9,12 +9,14 @@ use Rattle.ht_print.proofs.place_table.PlaceTable.add.Goals as goal
 pub index-requires : goal.index-requires
 index-requires c =
     let bucketed =
-    c.requires.can.is.bucketed in let count = bucketed.last_length in let inside = c.requires.bucket.inside in omega arith
+    c.requires.can.is.bucketed in let count = bucketed.last_length in let inside = c.requires.bucket.inside in omega
+    arith
 
 pub index_mut-requires : goal.index_mut-requires
 index_mut-requires c =
     let bucketed =
-    c.requires.can.is.bucketed in let count = bucketed.last_length in let inside = c.requires.bucket.inside in omega arith
+    c.requires.can.is.bucketed in let count = bucketed.last_length in let inside = c.requires.bucket.inside in omega
+    arith
 
 pub returns-clause-table : goal.returns-clause-table
 returns-clause-table c =

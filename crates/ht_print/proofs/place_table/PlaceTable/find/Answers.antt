@@ -11,7 +11,8 @@ use Rattle.ht_print.proofs.place_table.PlaceTable.find.Goals as goal
 pub index-at-requires : goal.index-at-requires
 index-at-requires c =
     let bucketed =
-    c.requires.table.bucketed in let count = bucketed.last_length in let inside = c.requires.bucket.inside in omega arith
+    c.requires.table.bucketed in let count = bucketed.last_length in let inside = c.requires.bucket.inside in omega
+    arith
 
 pub backwards-init : goal.backwards-init
 backwards-init c =

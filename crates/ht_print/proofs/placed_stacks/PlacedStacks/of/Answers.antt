@@ -40,6 +40,7 @@ pub returns-clause-placed : goal.returns-clause-placed
 returns-clause-placed c = record {
   held = c.requires.held;
   linked =
-      subst (λ (n : ℕ). AreLinked c.args.places.now c.args.stacks.now n c.each_stack.last.items c.each_stack.before.items)
+      subst (λ (n : ℕ). AreLinked c.args.places.now c.args.stacks.now n c.each_stack.last.items
+      c.each_stack.before.items)
       (omega arith) c.each_stack.invariant;
 }

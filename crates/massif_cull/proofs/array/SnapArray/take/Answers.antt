@@ -35,7 +35,8 @@ returns-in-Normal-clause-takes g c =
     let kept = normal-kept _ _ _ c.args.offer c.snapshot.result taken c.snapshot.ensures c.take_normal.ensures.kept in
     record {
       stands =
-          λ offers stands. stands-push old c.take_normal.new.self offers c.args.offer c.take_normal.ensures.takes.settings kept
+          λ offers stands. stands-push old c.take_normal.new.self offers c.args.offer
+          c.take_normal.ensures.takes.settings kept
           stands;
       settings = c.take_normal.ensures.takes.settings;
       kept = kept;
@@ -65,7 +66,8 @@ returns-in-Detailed-clause-takes g c =
       settings = c.take_normal-in-Detailed.ensures.takes.settings;
       kept = kept;
       loads =
-          detailed-loads _ old.kept c.args.offer c.snapshot-in-Detailed.result _ _ _ taken c.snapshot-in-Detailed.ensures
+          detailed-loads _ old.kept c.args.offer c.snapshot-in-Detailed.result _ _ _ taken
+          c.snapshot-in-Detailed.ensures
           c.take_normal-in-Detailed.ensures.takes.loads_left;
       origins =
           origins-detailed old.kept.entries old.loads c.args.offer c.args.load _ c.snapshot-in-Detailed.result _ _
@@ -86,7 +88,8 @@ returns-in-Peak-clause-takes g c =
     c.take_peak.ensures.kept in
     record {
       stands =
-          λ offers stands. stands-push old c.take_peak.new.self offers c.args.offer c.take_peak.ensures.takes.settings kept
+          λ offers stands. stands-push old c.take_peak.new.self offers c.args.offer c.take_peak.ensures.takes.settings
+          kept
           stands;
       settings = c.take_peak.ensures.takes.settings;
       kept = kept;

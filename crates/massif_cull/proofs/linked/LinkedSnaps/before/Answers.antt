@@ -10,7 +10,8 @@ unwrap-place-requires g c =
     let same : c.args.snap_at.index - 1 + 1 ≡ c.args.snap_at.index = omega (arith, c.requires.inside) in
     let within = slice_get_within c.self.inside.links.places c.args.snap_at.index c.args.snap_at.place here in
     some-inside c.self.inside.links.places (c.args.snap_at.index - 1) _
-    (c.prev.ensures.place (c.args.snap_at.index - 1) (ap (slice_get c.self.inside.links.places) same ∙ here)) (omega arith)
+    (c.prev.ensures.place (c.args.snap_at.index - 1) (ap (slice_get c.self.inside.links.places) same ∙ here))
+    (omega arith)
 
 pub returns-clause-snap_at : goal.returns-clause-snap_at
 returns-clause-snap_at g c =

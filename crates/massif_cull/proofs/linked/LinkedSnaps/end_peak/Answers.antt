@@ -17,7 +17,8 @@ after g c =
     }
 
 -- what has become of them
-done : (g : Over) (c : After-self-1 g) → IsEnded c.self.inside (after g c) c.in-Some.snap_at.index c.in-Some.snap_at.place
+done : (g : Over) (c : After-self-1 g)
+    → IsEnded c.self.inside (after g c) c.in-Some.snap_at.index c.in-Some.snap_at.place
 unfolding after
 done g c =
     let here = rw (← c.self.view_is) at c.in-Some.ensures.snap_at in

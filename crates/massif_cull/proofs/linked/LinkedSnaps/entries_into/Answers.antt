@@ -16,7 +16,8 @@ pub others-preserved : goal.others-preserved
 others-preserved g c =
     let so_far = c.others.invariant in
     let entries = c.args.self.now.entries in
-    let here : c.after-snap_at.result.index ≡ c.others.counter = omega (arith, c.after-snap_at.ensures.index, so_far.index) in
+    let here : c.after-snap_at.result.index ≡ c.others.counter = omega
+    (arith, c.after-snap_at.ensures.index, so_far.index) in
     let entry = c.entry-in-others.result in
     let at : slice_get entries c.others.counter ≡ Some entry =
     ap (slice_get entries) (sym here) ∙ c.entry-in-others.ensures in

@@ -8,5 +8,6 @@ gap-requires-clause-held g c = contains-at _ _ _ c.requires.snap_at
 
 pub returns : goal.returns
 returns g c =
-    ap (λ (gap : ℕ). let key : Key = record { gap = gap; number = c.args.snap_at.index; place = c.args.snap_at.place } in key)
+    ap (λ (gap : ℕ). let key : Key = record { gap = gap; number = c.args.snap_at.index; place = c.args.snap_at.place }
+    in key)
     (c.gap.ensures _ c.requires.snap_at)

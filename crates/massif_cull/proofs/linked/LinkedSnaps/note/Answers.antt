@@ -50,7 +50,8 @@ returns g c =
     let one : c.walk.snap_at.index + 1 ≡ c.walk.snap_at.index + 1 = refl in
     let count = ap length c.put-2.ensures ∙ length-set _ _ _ ∙ so_far.keys in
     let numbered =
-    numbered-more _ _ _ _ _ _ _ _ one placed.different so_far.snap_at (omega (arith, below, so_far.keys)) c.key-2.ensures
+    numbered-more _ _ _ _ _ _ _ _ one placed.different so_far.snap_at
+    (omega (arith, below, so_far.keys)) c.key-2.ensures
     c.put-2.ensures so_far.numbered in
     let counted = c.len-last.ensures.entries in
     record {

@@ -13,7 +13,8 @@ after g c =
     record {
       links = c.push-place.new.self;
       slots =
-          with_item c.self.inside.slots c.push-place.result (Some (record { entry = c.args.entry; load = c.args.load }));
+          with_item c.self.inside.slots c.push-place.result
+          (Some (record { entry = c.args.entry; load = c.args.load }));
     }
 
 -- what has become of them

@@ -12,7 +12,8 @@ each_removal-init g c = record {
 }
 
 pub remove_next-requires-clause-long : goal.remove_next-requires-clause-long
-remove_next-requires-clause-long g c = left-long _ _ _ _ _ c.requires.room.long (omega arith) c.each_removal.invariant.left
+remove_next-requires-clause-long g c =
+    left-long _ _ _ _ _ c.requires.room.long (omega arith) c.each_removal.invariant.left
 
 pub remove_next-requires-clause-sound : goal.remove_next-requires-clause-sound
 remove_next-requires-clause-sound g c = c.each_removal.invariant.left.sound

@@ -72,9 +72,11 @@ walk-preserved g c =
       some = omega arith;
       last = omega arith;
       inside = omega arith;
-      passed = passed-removed _ _ _ _ c.remove_at-snap_at.ensures.removes.entries same so_far.left.sound inside so_far.passed;
+      passed = passed-removed _ _ _ _ c.remove_at-snap_at.ensures.removes.entries same so_far.left.sound inside
+          so_far.passed;
       time = so_far.time
-          ∙ sym (time-below c.walk.self.entries c.walk.snap_at.index (c.walk.snap_at.index - 1) (omega arith) (omega arith))
+          ∙ sym (time-below c.walk.self.entries c.walk.snap_at.index (c.walk.snap_at.index - 1) (omega arith)
+          (omega arith))
           ∙ ap (λ (es : List SnapEntry). slice_index (times es) (c.walk.snap_at.index - 1))
           (sym c.remove_at-snap_at.ensures.removes.entries)
           ∙ ap (slice_index (times c.remove_at-snap_at.new.self.entries)) before;

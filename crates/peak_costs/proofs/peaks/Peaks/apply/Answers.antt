@@ -5,7 +5,8 @@ use Rattle.peak_costs.proofs.peaks.Peaks.apply.Goals as goal
 
 pub returns-in_ok-apply-in-Tick-clause-takes : goal.returns-in_ok-apply-in-Tick-clause-takes
 returns-in_ok-apply-in-Tick-clause-takes g c =
-    let same : c.apply.new.self ≡ c.self.inside.ledger = rw c.in-Tick.is at c.in_ok-apply-in-Tick.ensures.taken.changes in
+    let same : c.apply.new.self ≡ c.self.inside.ledger = rw c.in-Tick.is at c.in_ok-apply-in-Tick.ensures.taken.changes
+    in
     record {
       by_figures = search rules;
       fault = search rules;
@@ -20,5 +21,6 @@ returns-in_ok-apply-in-Tick-clause-takes g c =
 
 pub returns-in_ok-apply-in-Tick-clause-sound : goal.returns-in_ok-apply-in-Tick-clause-sound
 returns-in_ok-apply-in-Tick-clause-sound g c =
-    let same : c.apply.new.self ≡ c.self.inside.ledger = rw c.in-Tick.is at c.in_ok-apply-in-Tick.ensures.taken.changes in
+    let same : c.apply.new.self ≡ c.self.inside.ledger = rw c.in-Tick.is at c.in_ok-apply-in-Tick.ensures.taken.changes
+    in
     rw same (sound-of _ _ _ _ _ c.self.invariant.kept)

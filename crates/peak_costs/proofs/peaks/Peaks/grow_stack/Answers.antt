@@ -63,7 +63,8 @@ grown c = record {
 pub invariant_of-self-2 : goal.invariant_of-self-2
 invariant_of-self-2 c = record {
   kept =
-      kept-stack _ _ _ _ _ _ _ _ _ c.self.invariant.kept (grown c).has (grown c).saved (grown c).blocks (grown c).stamps;
+      kept-stack _ _ _ _ _ _ _ _ _ c.self.invariant.kept (grown c).has (grown c).saved (grown c).blocks
+      (grown c).stamps;
   live_within =
       subst (λ (totals : Totals). totals.live ≤ c.self.inside.mark.total) (sym (grown c).has.totals)
       c.self.invariant.live_within;

@@ -51,7 +51,8 @@ returns-clause-completed c =
     turn_entries c.args.thread
     (slice_get (events_at old.job.scripts c.args.thread) (times c.args.thread old.order)) in
     record {
-      done = step.done c.if-branch.false ∙ ap (λ (j : Job). length (events_at j.scripts c.args.thread)) (sym c.step.ensures.job);
+      done = step.done c.if-branch.false ∙ ap (λ (j : Job). length (events_at j.scripts c.args.thread))
+          (sym c.step.ensures.job);
       others = λ other apart.
           ap (times other) step.order_is
           ∙ stepped-other old.job.scripts c.args.thread other old.order apart ∙ c.turns.invariant.others other apart;

@@ -25,7 +25,8 @@ returns-in_default-clause-freed c =
           λ places of. sym
           (address-none places c.args.thread c.args.id (sym (of.live_blocks c.args.thread c.args.id) ∙ none));
       places_are =
-          λ places of. of-kept (entry_at heap) (entry_at new) (has_place heap.free) (has_place heap.free) heap.end places
+          λ places of. of-kept (entry_at heap) (entry_at new) (has_place heap.free)
+          (has_place heap.free) heap.end places
           c.args.thread c.args.id of none (λ k a. refl)
           (λ t i. c.remove.ensures.left t i
           ∙ ap (λ (found : Option LiveEntry). cond (same c.args.thread c.args.id t i) None found)

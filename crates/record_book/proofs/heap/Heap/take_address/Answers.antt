@@ -21,7 +21,8 @@ returns-in-None-clause-taken c = λ live places of.
     record {
       next = next-end live (has_place heap.free) heap.end places c.args.class of c.in-None.ensures.none;
       left =
-          none-taken (has_place heap.free) (has_place c.take_first.new.self) c.args.class heap.end c.in-None.ensures.none
+          none-taken (has_place heap.free) (has_place c.take_first.new.self) c.args.class heap.end
+          c.in-None.ensures.none
           c.in-None.ensures.unchanged;
       end_is = end-up heap.end c.args.class;
     }

@@ -11,7 +11,11 @@ returns-clause-fresh g c =
     c.new-tables.ensures.stands
     (record {
       meant =
-          rw (made.alloc_fns, made.ignore_fns) (c.requires.alloc_callable, c.requires.ignore_callable, c.requires.stated);
+          rw (made.alloc_fns, made.ignore_fns) (
+            c.requires.alloc_callable,
+            c.requires.ignore_callable,
+            c.requires.stated,
+          );
       options = made.options ∙ sym c.requires.settled;
       judged = omega (arith, made.judged, ledger.stacks, ap length c.new-tables.ensures.nodes);
     })

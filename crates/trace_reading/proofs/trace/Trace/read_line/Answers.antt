@@ -6,7 +6,8 @@ use Rattle.trace_reading.proofs.trace.Trace.read_line.Goals as goal
 pub returns-in-Ok-clause-read : goal.returns-in-Ok-clause-read
 returns-in-Ok-clause-read g c = record {
   read =
-      line_read g.F.Follower.faults c.args.self.now.tables (g.F.Follower.view c.args.self.now.follower) c.args.text.now _
+      line_read g.F.Follower.faults c.args.self.now.tables
+      (g.F.Follower.view c.args.self.now.follower) c.args.text.now _
       _
       (first_line_is c.args.text.now c.in-Some.end (sym c.in-Some.ensures.place)
       ∙ ap₂ (λ line left. line ∷ lines_of left) (sym c.split_at.ensures.front) (sym c.split_at-in-Ok.ensures.back))
@@ -27,7 +28,8 @@ returns-in-Err-clause-fault g c =
 pub returns-in-Ok-line-clause-read : goal.returns-in-Ok-line-clause-read
 returns-in-Ok-line-clause-read g c = record {
   read =
-      line_read g.F.Follower.faults c.args.self.now.tables (g.F.Follower.view c.args.self.now.follower) c.args.text.now []
+      line_read g.F.Follower.faults c.args.self.now.tables
+      (g.F.Follower.view c.args.self.now.follower) c.args.text.now []
       c.args.text.now (only_line_is c.args.text.now c.requires.some (sym c.in-None.ensures.place))
       c.line-in-None.new.self.tables (g.F.Follower.view c.line-in-None.new.self.follower) c.in-Ok-line.ensures.read;
   fewer = search rules;

@@ -10,7 +10,8 @@ lines-init g c = record {
   weight = omega arith;
   more = λ some. omega arith;
   read =
-      nothing_read g.F.Follower.faults c.args.self.now.tables (g.F.Follower.view c.args.self.now.follower) c.args.text.now
+      nothing_read g.F.Follower.faults c.args.self.now.tables
+      (g.F.Follower.view c.args.self.now.follower) c.args.text.now
       c.requires.sound;
 }
 
