@@ -1,4 +1,4 @@
--- From a run of the words and the delivery of its answer to what a run of the program comes to.
+-- From what a run of the words and the delivery of its answer came to, to what a run of the program comes to.
 use Rattle.std.proofs.Common.{◌≡◌, ◌≢◌, ◌⊎◌, ℕ, ◌^◌, ◌<◌, List, false, Some, ap, sym, ◌∙◌, inl, inr, arith}
 use Rattle.std.specs.Io.KnownBytes.{append_known}
 use Rattle.hp_outside.specs.Folder.{Folder}
@@ -6,13 +6,11 @@ use Rattle.command_frame.specs.Answer.{Answer}
 use Rattle.command_frame.specs.FirstFault.{Bounds}
 use Rattle.command_frame.specs.Outside.{Gives, Outside, StoreFaulted}
 use Rattle.command_frame.proofs.Laws.{TaskEnded, append_nothing, defined_by, front_by, gives_as, judged_by, run_ends}
-use Rattle.command_frame.proofs.Laws.{silent_by, task_quiet, to_end_by, told_by, unreached_by, wrote}
+use Rattle.command_frame.proofs.Laws.{silent_by, task_quiet, to_end_by, unreached_by, wrote}
 use Rattle.commands.specs.Answer.{answer}
-use Rattle.heapsuite_words.specs.Asked.{asked, knows_first}
-use Rattle.commands.specs.Tasks.{task_asked}
+use Rattle.commands.specs.Commands.{knows_first, task_of}
 use Rattle.commands.specs.HasRun.{HasRun}
 use Rattle.commands.specs.Texts.{heapsuite_texts}
-use Rattle.commands.proofs.AskedLemmas.{no_task, nothing_asked}
 use Rattle.trace_reports.proofs.Laws.{AreLaws}
 use Rattle.commands.proofs.KeepLemmas.{run-keeps}
 
@@ -25,8 +23,8 @@ is_other status other (inr six) isnt_one isnt_six = λ is. isnt_six (sym is ∙ 
 pub has_run : (laws : AreLaws) (bounds : Bounds) (words : List (List ℕ)) (before now : Outside) (status : ℕ)
     (given : Answer)
     → bounds.line < 2 ^ 32
-    → (e : TaskEnded heapsuite_texts bounds (task_asked (asked words)) before now status given)
-    → (knows_first words ≡ false → given.status ≢ 5)
+    → (e : TaskEnded heapsuite_texts bounds (task_of words) before now status given)
+    → (knows_first words ≡ false → status ≢ 5)
     → HasRun bounds words before now status
 has_run laws bounds words before now status given small e unknown =
     let defined : (folder : Folder) → before.store.files ≡ Some folder → ¬ StoreFaulted before now → status ≢ 4
@@ -37,7 +35,7 @@ has_run laws bounds words before now status given small e unknown =
     → Gives before now (answer words bounds folder) status =
     λ folder known three four five. gives_as before now status (judged_by e folder known three four five)
     (e.delivered.whole four) in
-    let ends = run_ends e (no_task (asked words)) (nothing_asked (asked words)) in
+    let ends = run_ends e (λ none. none) (λ none. none) in
     record {
       defined =
           λ folder known quiet out_quiet err_quiet five. defined folder known quiet (wrote e out_quiet err_quiet) five;
@@ -48,7 +46,7 @@ has_run laws bounds words before now status given small e unknown =
             given.message
                 ∙
                 (ap (append_known before.err.written)
-                (task_quiet heapsuite_texts bounds folder (task_asked (asked words)) zero)
+                (task_quiet heapsuite_texts bounds folder (task_of words) zero)
                 ∙ append_nothing before.err.written),
           );
       run = (given, record { ran = e.ran; delivered = e.delivered });
@@ -69,9 +67,9 @@ has_run laws bounds words before now status given small e unknown =
           (λ five. omega (arith, zero, five)) in (
             (answer words bounds folder).output,
             whole.output,
-            run-keeps laws bounds folder (asked words) small (sym whole.status_is ∙ zero),
+            run-keeps laws bounds folder words small (sym whole.status_is ∙ zero),
           );
       silent = silent_by e;
-      unknown = λ first five. unknown first (sym (told_by e (λ four. omega (arith, five, four))) ∙ five);
+      unknown = unknown;
       ends = ends;
     }

@@ -1,4 +1,3 @@
-mod AskedLemmas
-mod SilentLemmas
+mod EndedLemmas
 mod KeepLemmas
 mod HasRunLemmas

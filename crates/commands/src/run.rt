@@ -1,12 +1,9 @@
 //! The public call of the program: words and files in, output, message and status out.
-ghost use Rattle.std.specs.Prelude.{◌^◌, ◌<◌, map, string_bytes};
-ghost use Rattle.command_frame.specs.FirstFault.{bounds_of};
-ghost use Rattle.command_frame.specs.Outside.{outside};
-ghost use Rattle.commands.specs.HasRun.{HasRun};
+ghost use Rattle.std.specs.Prelude.{◌^◌, ◌<◌};
+ghost use Rattle.commands.specs.HasRun.{HasRunOver};
 
-use crate::run_words::run_words;
-use crate::texts::heapsuite_texts;
-use command_frame::{RunContext, deliver};
+use crate::list::{heapsuite_texts, run_words};
+use command_frame::RunContext;
 use hp_outside::{Limits, Sink, Store};
 use interpret::interpreted_traces;
 use std::alloc::Global;
@@ -38,9 +35,8 @@ pub fn heapsuite_run<S: Store, O: Sink, E: Sink>(
     err: &mut E,
 ) -> u8
     requires { S.opens store.old < 2 ^ 63 }
-    ensures { HasRun (bounds_of limits.now) (map string_bytes words.now)
-        (outside S.Store O.Sink E.Sink store.old out.old err.old)
-        (outside S.Store O.Sink E.Sink store.new out.new err.new) result }
+    ensures { HasRunOver S.Store O.Sink E.Sink limits.now words.now
+        store.old out.old err.old store.new out.new err.new result }
 {
     interpreted_traces();
     let context = RunContext {
@@ -48,6 +44,5 @@ pub fn heapsuite_run<S: Store, O: Sink, E: Sink>(
         limits: *limits,
         texts: heapsuite_texts(),
     };
-    let ran = run_words(&context, words, store, out);
-    deliver(ran, &context.texts, out, err)
+    run_words(&context, words, store, out, err)
 }
