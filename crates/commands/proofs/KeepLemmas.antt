@@ -1,5 +1,6 @@
 -- That `interpret` at status 0 keeps the ledger and the stacks of the raw trace.
-use Rattle.std.proofs.Common.{◌≡◌, ◌^◌, ◌<◌, ℕ, List, [], ◌∷◌, Bool, true, false, Option, Some, None, codes, refl, subst}
+use Rattle.std.proofs.Common.{◌≡◌, ◌^◌, ◌<◌, ℕ, List, [], ◌∷◌, Bool}
+use Rattle.std.proofs.Common.{true, false, Option, Some, None, codes, refl, subst}
 use Rattle.std.proofs.Common.{sym, if◌then◌else◌}
 use Rattle.std.proofs.lemmas.Slice.Eq.{bytes_eq-Decides}
 use Rattle.std.specs.Option.{option_map}

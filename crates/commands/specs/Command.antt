@@ -40,8 +40,8 @@ task_by command words = option_map command.task (asked_of command words)
 abbrev pub given_by : {A Z : Type 0} → CommandOf A → List (String Z) → TakenWords → Option A
 given_by command words taken = command.given (map string_bytes words) (rows_in taken)
 
--- the words behind a command were read: a request asks for what they do, and none is made since they aren't taken only where that
--- is so
+-- the words behind a command were read: a request asks for what they do, and none is made since
+-- they aren't taken only where that is so
 pub record Reads {A R : Type 0} (command : CommandOf A) (asked_by : R → A) (words : List (List ℕ))
     (result : Result R WordsFault) : Type 0 where
   pub taken : IfOk result (λ request. asked_of command words ≡ Some (asked_by request))

@@ -55,7 +55,8 @@ pub record HasRun (bounds : Bounds) (words : List (List ℕ)) (before now : Outs
       → (answer words bounds folder).status ≡ 1 → status ≢ 4 → status ≢ 5 → status ≡ 1
   pub past_limit : (folder : Folder) → before.store.files ≡ Some folder → ¬ StoreFaulted before now
       → (answer words bounds folder).status ≡ 6 → status ≢ 4 → status ≢ 5 → status ≡ 6
-  -- The same where a call on the store failed, once the first fault was reached: once the bytes that show it were taken.
+  -- The same where a call on the store failed, once the first fault was reached: once the bytes
+  -- that show it were taken.
   pub reached : (folder : Folder) → before.store.files ≡ Some folder
       → IsReached bounds folder (task_of words) before.store.moment now.store.moment
       → status ≢ 4 → status ≢ 5
@@ -77,8 +78,8 @@ pub record HasRun (bounds : Bounds) (words : List (List ℕ)) (before now : Outs
       → now.out.written ≡ before.out.written
   -- No words and an unknown first word take no memory.
   pub unknown : knows_first words ≡ false → status ≢ 5
-  -- What every run promises: the files that were opened, what statuses 2, 3 and 5 say, and that no failed call of the store is
-  -- passed over in silence.
+  -- What every run promises: the files that were opened, what statuses 2, 3 and 5 say, and that no
+  -- failed call of the store is passed over in silence.
   pub ends : RunEnds the_texts (task_of words ≡ None) (task_names (task_of words)) before now status
 
 -- the same, of words and limits of the code, and of a store and outputs

@@ -8,7 +8,8 @@ pub returns-then-self : goal.returns-then-self
 returns-then-self g c =
     let store = shown g.S.Store c.args._store.now in
     let out = taken g.O.Sink c.args.out.now in
-    subst (λ (run : Bool). RunsTo c.args.context.now [] (gen_plan (sizes_of c.args.self.now.options) run) store store out
+    subst (λ (run : Bool). RunsTo c.args.context.now []
+    (gen_plan (sizes_of c.args.self.now.options) run) store store out
     out c.run_gen_summary.result) (sym c.if-self.true) (c.run_gen_summary.ensures store out)
 
 pub returns : goal.returns
