@@ -8,7 +8,7 @@ use Rattle.command_frame.specs.declared.taker.LineTaker as taker
 pub record IsNewTaker {T F : Type 0} (g : taker.Ghosts T F) (it : T) : Type 0 where
   pub sound : g.is_sound it
   pub no_lines : g.has_taken it []
-  pub no_weight : g.weight it ≡ 0
+  pub no_measure : g.measure it ≡ 0
 
 -- it makes of lines what it made of them, and where all went well, it may take more
 pub record SameTaker {T F X E : Type 0} (g : taker.Ghosts T F) (old new : T) (result : Result X E)

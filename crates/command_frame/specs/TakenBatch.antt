@@ -12,5 +12,5 @@ pub record HasTakenBatch {T F Z : Type 0} (g : taker.Ghosts T F) (old new : T) (
   pub held : batch.bytes ≤ length ready
   pub few : batch.lines ≤ batch.bytes
   pub sound : g.is_sound new
-  pub weight : g.weight new ≤ g.weight old + batch.bytes
+  pub measure : g.measure new ≤ g.measure old + batch.bytes
   pub report : g.report new ≡ g.report old

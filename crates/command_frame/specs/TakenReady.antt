@@ -10,7 +10,7 @@ pub record HasTakenReady {T F Z : Type 0} (g : taker.Ghosts T F) (lines next : L
   pub taken : HasTakenKept (g.report old) (g.has_taken old) (g.has_taken new) lines next
       before.items after.items
   pub sound : g.is_sound new
-  pub weight : g.weight new ≤ next.given
+  pub measure : g.measure new ≤ next.given
   pub report : g.report new ≡ g.report old
   -- the reader
   pub given : lines.given ≤ next.given

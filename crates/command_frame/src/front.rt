@@ -16,7 +16,7 @@ pub struct Batch {
 #[inline(always)]
 pub fn take_batch<T: LineTaker>(taker: &mut T, ready: &[u8], output: &mut Vec<u8>) -> Batch
     requires sound { T.is_sound taker.old }
-    requires room { T.weight taker.old + length ready.now ≤ 2 ^ 34 }
+    requires room { T.measure taker.old + length ready.now ≤ 2 ^ 34 }
     ensures { HasTakenBatch T.LineTaker taker.old taker.new ready.now output.old output.new
         result }
 {
@@ -35,7 +35,7 @@ pub fn take_batch<T: LineTaker>(taker: &mut T, ready: &[u8], output: &mut Vec<u8
 #[inline(never)]
 fn take_lines<T: LineTaker>(taker: &mut T, ready: &[u8], output: &mut Vec<u8>) -> Batch
     requires sound { T.is_sound taker.old }
-    requires room { T.weight taker.old + length ready.now ≤ 2 ^ 34 }
+    requires room { T.measure taker.old + length ready.now ≤ 2 ^ 34 }
     ensures { HasTakenBatch T.LineTaker taker.old taker.new ready.now output.old output.new
         result }
 {

@@ -124,7 +124,7 @@ fn take_ready<T: LineTaker>(lines: &mut LineReader, taker: &mut T, buffer: &mut 
     requires bounds { lines.old.input ≤ 2 ^ 34 }
     requires given { lines.old.given ≤ lines.old.input + 1 }
     requires sound { T.is_sound taker.old }
-    requires weight { T.weight taker.old ≤ lines.old.given }
+    requires measure { T.measure taker.old ≤ lines.old.given }
     ensures { HasTakenReady T.LineTaker lines.old lines.new taker.old taker.new buffer.old
         buffer.new }
 {

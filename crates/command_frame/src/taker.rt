@@ -41,7 +41,7 @@ pub trait LineTaker {
     ghost is_sound: { Self → Type 0 };
 
     /// A number that grows by no more than a line's bytes and 1 with each line.
-    ghost weight: { Self → ℕ };
+    ghost measure: { Self → ℕ };
 
     /// Takes the next line, in which no line feed stands, and appends what the line gives to standard output. `Fault` comes
     /// exactly where the line has one after the lines before it, and `NoMemory` where memory is wanting; `output` then is as
@@ -50,7 +50,7 @@ pub trait LineTaker {
         requires sound { is_sound self.old }
         requires one_line { IsLineText line.now }
         requires short { length line.now < 2 ^ 32 }
-        requires room { weight self.old + length line.now ≤ 2 ^ 34 }
+        requires room { measure self.old + length line.now ≤ 2 ^ 34 }
         ensures sound { OnOk result (is_sound self.new) }
         ensures taken { OnOk result (TakesMore (has_taken self.old) (has_taken self.new) line.now) }
         ensures no_fault { OnOk result (IsGood (report self.old) (has_taken self.old) line.now) }
@@ -59,7 +59,7 @@ pub trait LineTaker {
         ensures output { GainsLine (report self.old) (has_taken self.old) line.now
             output.old output.new result }
         ensures no_output { OnErr result (output.new.items ≡ output.old.items) }
-        ensures weight { OnOk result (weight self.new ≤ weight self.old + length line.now + 1) }
+        ensures measure { OnOk result (measure self.new ≤ measure self.old + length line.now + 1) }
         ensures report { report self.new ≡ report self.old };
 
     /// Whether the file may end here: the fault of its end, if it has one. `ended` says whether the last line ended with
@@ -74,11 +74,11 @@ pub trait LineTaker {
     /// stands for the same lines. Where memory is wanting, a later call tells it.
     fn front(&mut self, ready: &[u8], output: &mut Vec<u8>) -> Option<usize>
         requires sound { is_sound self.old }
-        requires room { weight self.old + length ready.now ≤ 2 ^ 34 }
+        requires room { measure self.old + length ready.now ≤ 2 ^ 34 }
         ensures sound { is_sound self.new }
         ensures taken { TakesFirst (report self.old) (has_taken self.old) (has_taken self.new)
             ready.now output.old.items output.new.items result }
-        ensures weight { weight self.new ≤ weight self.old + unwrap_or result 0 }
+        ensures measure { measure self.new ≤ measure self.old + unwrap_or result 0 }
         ensures report { report self.new ≡ report self.old }
     {
         None

@@ -41,7 +41,7 @@ impl LineTaker for Echo {
 
     ghost is_sound = { λ _. Unit {0} };
 
-    ghost weight = { λ _. 0 };
+    ghost measure = { λ _. 0 };
 
     fn line(&mut self, line: &[u8], output: &mut Vec<u8>) -> Result<(), LineRefusal<Bad>> {
         if line == b"bad".as_slice() {

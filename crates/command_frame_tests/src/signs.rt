@@ -38,7 +38,7 @@ impl LineTaker for Signs {
 
     ghost is_sound = { λ signs. signs.called ≤ signs.taken };
 
-    ghost weight = { λ signs. signs.taken };
+    ghost measure = { λ signs. signs.taken };
 
     fn line(&mut self, line: &[u8], output: &mut Vec<u8>) -> Result<(), LineRefusal<NoFault>> {
         if 1 < line.len() {

@@ -97,6 +97,7 @@ massif_table = record {
   files = true;
 }
 
+-- its options, and one file; the profile is written once all lines were read
 abbrev pub massif : CommandOf MassifAsked
 massif = record {
   table = massif_table;

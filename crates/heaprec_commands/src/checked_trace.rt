@@ -26,7 +26,7 @@ impl LineTaker for CheckedTrace {
 
     ghost is_sound = { λ _. Unit {0} };
 
-    ghost weight = { λ _. 0 };
+    ghost measure = { λ _. 0 };
 
     fn line(&mut self, line: &[u8], _output: &mut Vec<u8>) -> Result<(), LineRefusal<NotRecorded>> {
         match self.check.line(line) {

@@ -59,7 +59,7 @@ impl<B: Start> LineTaker for FileReader<B> {
     ghost is_sound = { λ reader.
         (reader.kind ≡ B.kind) × (B.kind ≡ Script → 0 < length reader.scripts.scripts) };
 
-    ghost weight = { λ _. 0 };
+    ghost measure = { λ _. 0 };
 
     fn line(&mut self, line: &[u8], _output: &mut Vec<u8>) -> Result<(), LineRefusal<RefusedLine>> {
         match take_line(self.kind, &mut self.scripts, line) {

@@ -10,7 +10,7 @@ use Rattle.std.proofs.lemmas.List.Edits.{length-remove}
 use Rattle.massif_cull.specs.declared.snapshot.SnapEntry.{SnapEntry}
 use Rattle.massif_cull.specs.ArrayState.{AreSound}
 use Rattle.massif_cull.specs.Culling.{may_go, gap_at, removed_place}
-use Rattle.massif_cull.specs.Ends.{goers, span}
+use Rattle.massif_cull.specs.Ends.{count_may_go, span}
 use Rattle.massif_cull.specs.Entries.{is_peak, is_peak_at, last_time, times}
 use Rattle.massif_cull.specs.Keyed.{gap_to_go}
 use Rattle.massif_cull.specs.Left.{AreLeft}
@@ -106,103 +106,106 @@ kept-all entries xs place all =
 -- ---- how many may go
 
 -- one more place
-pub goers-stays : (entries : List SnapEntry) (place next : ℕ) → place + 1 ≡ next → next < length entries
+pub count_may_go-stays : (entries : List SnapEntry) (place next : ℕ) → place + 1 ≡ next → next < length entries
     → may_go entries place ≡ false
-    → goers entries place (length entries - 1 - place) ≡ goers entries next (length entries - 1 - next)
-goers-stays entries place next follows inside stays =
+    → count_may_go entries place (length entries - 1 - place) ≡ count_may_go entries next (length entries - 1 - next)
+count_may_go-stays entries place next follows inside stays =
     let more : length entries - 1 - place ≡ suc (length entries - 1 - next) = omega arith in
-    let first : goers entries place (length entries - 1 - place)
-    ≡ 0 + goers entries (place + 1) (length entries - 1 - next) =
-    ap (goers entries place) more
-    ∙ ap (λ (b : Bool). (if b then 1 else 0) + goers entries (place + 1) (length entries - 1 - next)) stays
+    let first : count_may_go entries place (length entries - 1 - place)
+    ≡ 0 + count_may_go entries (place + 1) (length entries - 1 - next) =
+    ap (count_may_go entries place) more
+    ∙ ap (λ (b : Bool). (if b then 1 else 0) + count_may_go entries (place + 1) (length entries - 1 - next)) stays
     in
-    let rest = ap (λ (k : ℕ). goers entries k (length entries - 1 - next)) follows in
+    let rest = ap (λ (k : ℕ). count_may_go entries k (length entries - 1 - next)) follows in
     omega (arith, first, rest)
 
-pub goers-goes : (entries : List SnapEntry) (place next : ℕ) → place + 1 ≡ next → next < length entries
+pub count_may_go-goes : (entries : List SnapEntry) (place next : ℕ) → place + 1 ≡ next → next < length entries
     → may_go entries place ≡ true
-    → goers entries place (length entries - 1 - place) ≡ goers entries next (length entries - 1 - next) + 1
-goers-goes entries place next follows inside goes =
+    → count_may_go entries place (length entries - 1 - place) ≡ count_may_go entries next
+    (length entries - 1 - next) + 1
+count_may_go-goes entries place next follows inside goes =
     let more : length entries - 1 - place ≡ suc (length entries - 1 - next) = omega arith in
-    let first : goers entries place (length entries - 1 - place)
-    ≡ 1 + goers entries (place + 1) (length entries - 1 - next) =
-    ap (goers entries place) more
-    ∙ ap (λ (b : Bool). (if b then 1 else 0) + goers entries (place + 1) (length entries - 1 - next)) goes
+    let first : count_may_go entries place (length entries - 1 - place)
+    ≡ 1 + count_may_go entries (place + 1) (length entries - 1 - next) =
+    ap (count_may_go entries place) more
+    ∙ ap (λ (b : Bool). (if b then 1 else 0) + count_may_go entries (place + 1) (length entries - 1 - next)) goes
     in
-    let rest = ap (λ (k : ℕ). goers entries k (length entries - 1 - next)) follows in
+    let rest = ap (λ (k : ℕ). count_may_go entries k (length entries - 1 - next)) follows in
     omega (arith, first, rest)
 
 -- of some there is one
-one-goes : (entries : List SnapEntry) (place n : ℕ) → 0 < goers entries place n
+one-goes : (entries : List SnapEntry) (place n : ℕ) → 0 < count_may_go entries place n
     → (k : ℕ) × (place ≤ k) × (may_go entries k ≡ true)
 one-goes entries place zero some = absurd (omega arith)
 one-goes entries place (suc n) some =
     elim (cases_Bool (may_go entries place)) [
       | inl goes ↦ (place, omega arith, goes)
       | inr stays ↦
-          let counted : 0 < 0 + goers entries (place + 1) n =
-          subst (λ (b : Bool). 0 < (if b then 1 else 0) + goers entries (place + 1) n) stays some in
-          let behind : 0 < goers entries (place + 1) n = omega (arith, counted) in
+          let counted : 0 < 0 + count_may_go entries (place + 1) n =
+          subst (λ (b : Bool). 0 < (if b then 1 else 0) + count_may_go entries (place + 1) n) stays some in
+          let behind : 0 < count_may_go entries (place + 1) n = omega (arith, counted) in
           let rest = one-goes entries (place + 1) n behind in
           (rest.0, (let low = rest.1 in omega arith), rest.2)
     ]
 
 -- of none there is none
-none-goes : (entries : List SnapEntry) (place n k : ℕ) → goers entries place n ≡ 0 → place ≤ k → k < place + n
+none-goes : (entries : List SnapEntry) (place n k : ℕ) → count_may_go entries place n ≡ 0 → place ≤ k → k < place + n
     → may_go entries k ≡ false
 none-goes entries place zero k none low high = absurd (omega arith)
 none-goes entries place (suc n) k none low high =
     elim (cases_Bool (may_go entries place)) [
       | inl goes ↦
-          let counted : 1 + goers entries (place + 1) n ≡ 0 =
-          subst (λ (b : Bool). (if b then 1 else 0) + goers entries (place + 1) n ≡ 0) goes none in
+          let counted : 1 + count_may_go entries (place + 1) n ≡ 0 =
+          subst (λ (b : Bool). (if b then 1 else 0) + count_may_go entries (place + 1) n ≡ 0) goes none in
           absurd (omega (arith, counted))
       | inr stays ↦ elim (cases_eq place k) [
         | inl here ↦ ap (may_go entries) (sym here) ∙ stays
         | inr behind ↦
-            let counted : 0 + goers entries (place + 1) n ≡ 0 =
-            subst (λ (b : Bool). (if b then 1 else 0) + goers entries (place + 1) n ≡ 0) stays none in
+            let counted : 0 + count_may_go entries (place + 1) n ≡ 0 =
+            subst (λ (b : Bool). (if b then 1 else 0) + count_may_go entries (place + 1) n ≡ 0) stays none in
             none-goes entries (place + 1) n k (omega (arith, counted)) (omega arith) (omega arith)
       ]
     ]
 
 -- behind one that is removed
-goers-behind : (entries : List SnapEntry) (p place n : ℕ) → 0 < p → p + 1 < length entries → p ≤ place
-    → goers (remove entries p) place n ≡ goers entries (place + 1) n
-goers-behind entries p place zero some inside behind = refl
-goers-behind entries p place (suc n) some inside behind =
-    ap (λ (b : Bool). (if b then 1 else 0) + goers (remove entries p) (place + 1) n)
+count_may_go-behind : (entries : List SnapEntry) (p place n : ℕ) → 0 < p → p + 1 < length entries → p ≤ place
+    → count_may_go (remove entries p) place n ≡ count_may_go entries (place + 1) n
+count_may_go-behind entries p place zero some inside behind = refl
+count_may_go-behind entries p place (suc n) some inside behind =
+    ap (λ (b : Bool). (if b then 1 else 0) + count_may_go (remove entries p) (place + 1) n)
     (may-above entries p place some inside behind)
     ∙ ap (λ (m : ℕ). (if may_go entries (place + 1) then 1 else 0) + m)
-    (goers-behind entries p (place + 1) n some inside (omega arith))
+    (count_may_go-behind entries p (place + 1) n some inside (omega arith))
 
 -- where the first of them goes
-goers-first : (entries : List SnapEntry) (p place n : ℕ) → may_go entries p ≡ true → 0 < p → p + 1 < length entries
-    → place ≡ p → goers (remove entries p) place n + 1 ≡ goers entries place (suc n)
-goers-first entries p place n goes some inside here =
-    let behind = goers-behind entries p place n some inside (omega arith) in
-    let counted : goers entries place (suc n) ≡ 1 + goers entries (place + 1) n =
-    ap (λ (b : Bool). (if b then 1 else 0) + goers entries (place + 1) n) (ap (may_go entries) here ∙ goes)
+count_may_go-first : (entries : List SnapEntry) (p place n : ℕ) → may_go entries p ≡ true → 0 < p
+    → p + 1 < length entries
+    → place ≡ p → count_may_go (remove entries p) place n + 1 ≡ count_may_go entries place (suc n)
+count_may_go-first entries p place n goes some inside here =
+    let behind = count_may_go-behind entries p place n some inside (omega arith) in
+    let counted : count_may_go entries place (suc n) ≡ 1 + count_may_go entries (place + 1) n =
+    ap (λ (b : Bool). (if b then 1 else 0) + count_may_go entries (place + 1) n) (ap (may_go entries) here ∙ goes)
     in
     omega (arith, behind, counted)
 
 -- where one of them goes, one fewer may go
-goers-removed : (entries : List SnapEntry) (p place n : ℕ) → may_go entries p ≡ true → 0 < p → p + 1 < length entries
-    → place ≤ p → p ≤ place + n → goers (remove entries p) place n + 1 ≡ goers entries place (suc n)
-goers-removed entries p place zero goes some inside low high =
-    goers-first entries p place zero goes some inside (omega arith)
-goers-removed entries p place (suc n) goes some inside low high =
+count_may_go-removed : (entries : List SnapEntry) (p place n : ℕ) → may_go entries p ≡ true → 0 < p
+    → p + 1 < length entries
+    → place ≤ p → p ≤ place + n → count_may_go (remove entries p) place n + 1 ≡ count_may_go entries place (suc n)
+count_may_go-removed entries p place zero goes some inside low high =
+    count_may_go-first entries p place zero goes some inside (omega arith)
+count_may_go-removed entries p place (suc n) goes some inside low high =
     elim (cases_eq place p) [
-      | inl here ↦ goers-first entries p place (suc n) goes some inside here
+      | inl here ↦ count_may_go-first entries p place (suc n) goes some inside here
       | inr apart ↦
-          let rest = goers-removed entries p (place + 1) n goes some inside (omega arith) (omega arith) in
-          let first : goers (remove entries p) place (suc n)
-          ≡ (if may_go entries place then 1 else 0) + goers (remove entries p) (place + 1) n =
-          ap (λ (b : Bool). (if b then 1 else 0) + goers (remove entries p) (place + 1) n)
+          let rest = count_may_go-removed entries p (place + 1) n goes some inside (omega arith) (omega arith) in
+          let first : count_may_go (remove entries p) place (suc n)
+          ≡ (if may_go entries place then 1 else 0) + count_may_go (remove entries p) (place + 1) n =
+          ap (λ (b : Bool). (if b then 1 else 0) + count_may_go (remove entries p) (place + 1) n)
           (may-below entries p place inside (omega arith))
           in
-          let whole : goers entries place (suc (suc n))
-          ≡ (if may_go entries place then 1 else 0) + goers entries (place + 1) (suc n) = refl in
+          let whole : count_may_go entries place (suc (suc n))
+          ≡ (if may_go entries place then 1 else 0) + count_may_go entries (place + 1) (suc n) = refl in
           omega (arith, rest, first, whole)
     ]
 
@@ -391,7 +394,7 @@ pub end-goes :
     → 0 < place
     → place < length entries
     → ((j : ℕ) → 0 < j → j < place → span entries place < gap_to_go entries j)
-    → goers entries place (length entries - 1 - place) ≡ n
+    → count_may_go entries place (length entries - 1 - place) ≡ n
     → AreLeft 0 earlier earlier_loads (keep_from place entries (map is_peak entries))
     (keep_from place loads (map is_peak entries))
 end-goes {T} zero earlier earlier_loads entries loads place left some inside above count =
@@ -416,9 +419,10 @@ end-goes {T} (suc n) earlier earlier_loads entries loads place left some inside 
     let shorter = length-remove entries next.index (omega arith) in
     let more : length entries - 1 - place ≡ suc (length (remove entries next.index) - 1 - place) = omega arith in
     let fewer =
-    goers-removed entries next.index place (length (remove entries next.index) - 1 - place) next.may (omega arith)
+    count_may_go-removed entries next.index place (length (remove entries next.index) - 1 - place) next.may
+    (omega arith)
     within low (omega arith) in
-    let counted = ap (goers entries place) more in
+    let counted = ap (count_may_go entries place) more in
     let normal = no-peak entries next.index next.may in
     let rest = end-goes n earlier earlier_loads (remove entries next.index) (remove loads next.index) place
     (left-more n earlier earlier_loads entries loads next.index next.goes within left) some (omega arith)

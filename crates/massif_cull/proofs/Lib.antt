@@ -7,7 +7,7 @@ mod Places
 mod Differences
 mod Removals
 mod Equals
-mod Pyramid
+mod Tournament
 mod Keying
 mod EndLemmas
 mod Standing

@@ -7,13 +7,13 @@ use Rattle.massif_cull.specs.Entries.{last_time, times}
 use Rattle.massif_cull.specs.Keyed.{gap_to_go}
 
 -- how many of so many entries from the place on may go
-abbrev pub goers : List SnapEntry → ℕ → ℕ → ℕ
-goers entries place zero = 0
-goers entries place (suc n) = (if may_go entries place then 1 else 0) + goers entries (place + 1) n
+abbrev pub count_may_go : List SnapEntry → ℕ → ℕ → ℕ
+count_may_go entries place zero = 0
+count_may_go entries place (suc n) = (if may_go entries place then 1 else 0) + count_may_go entries (place + 1) n
 
 -- how many entries from the place on may go, without the last one
-abbrev pub goers_from : List SnapEntry → ℕ → ℕ
-goers_from entries place = goers entries place (length entries - 1 - place)
+abbrev pub count_may_go_from : List SnapEntry → ℕ → ℕ
+count_may_go_from entries place = count_may_go entries place (length entries - 1 - place)
 
 -- each gap before the place is above so much
 abbrev pub AreGapsAbove : List SnapEntry → ℕ → ℕ → Type 0
@@ -27,5 +27,5 @@ span entries place = last_time entries - slice_index (times entries) (place - 1)
 pub record GoesWhole (entries : List SnapEntry) (place : ℕ) : Type 0 where
   pub some : 0 < place
   pub inside : place < length entries
-  pub count : goers_from entries place ≡ length entries / 2
+  pub count : count_may_go_from entries place ≡ length entries / 2
   pub above : AreGapsAbove entries place (span entries place)

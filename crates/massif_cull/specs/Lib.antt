@@ -18,7 +18,7 @@ pub mod Removed
 pub mod LinksState
 pub mod Linked
 pub mod Keys
-pub mod Pyramid
+pub mod Tournament
 pub mod Keyed
 pub mod Left
 pub mod Culled

@@ -2,7 +2,7 @@
 //! What goes where there is no such end is in `removal`.
 ghost use Rattle.std.specs.Prelude.{◌≡◌, ◌<◌, ◌≤◌, true, length, IfSome};
 ghost use Rattle.massif_cull.specs.ArrayState.{AreSound};
-ghost use Rattle.massif_cull.specs.Ends.{AreGapsAbove, GoesWhole, goers_from};
+ghost use Rattle.massif_cull.specs.Ends.{AreGapsAbove, GoesWhole, count_may_go_from};
 ghost use Rattle.massif_cull.specs.Left.{IsHalved};
 ghost use Rattle.massif_cull.specs.SnapsState.{IsNumberedSnap};
 
@@ -40,7 +40,7 @@ impl<T: Drop> LinkedSnaps<T> {
         ensures inside { IfSome result
             (λ snap_at. (0 < snap_at.index) × (snap_at.index < length self.now.entries)) }
         ensures count { IfSome result
-            (λ snap_at. goers_from self.now.entries snap_at.index ≡ count) }
+            (λ snap_at. count_may_go_from self.now.entries snap_at.index ≡ count) }
     {
         let mut snap_at = self.last_spot()?;
         let mut found = 0;

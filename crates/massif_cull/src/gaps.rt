@@ -1,4 +1,4 @@
-//! Keys of places in a pyramid, which has the first of them at its top.
+//! Keys of places in a tournament, which has the first of them at its top.
 //! Which place has which key is the user's business.
 ghost use Rattle.std.specs.Prelude.{◌≡◌, ℕ, ◌+◌, ◌/◌, ◌<◌, ◌≤◌, drop, length, map, slice_set, true, IfOk};
 ghost use Rattle.massif_cull.specs.Keys.{AreFirsts, IsFirst, first_of, key_at, no_key, with_gap};
@@ -30,13 +30,13 @@ pub(crate) struct Gaps {
 
 impl Model for Gaps {
     ghost use Rattle.massif_cull.specs.Keys.{GapsState};
-    ghost use Rattle.massif_cull.specs.Pyramid.{gaps_of, IsPyramid};
+    ghost use Rattle.massif_cull.specs.Tournament.{gaps_of, IsTournament};
 
     ghost Value = { GapsState };
 
     ghost view = { gaps_of };
 
-    ghost invariant = { IsPyramid };
+    ghost invariant = { IsTournament };
 }
 
 impl Gaps {

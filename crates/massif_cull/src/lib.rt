@@ -18,7 +18,7 @@
 //! | `array.rt` | which offers are taken, and what is kept of them |
 //! | `removal.rt` | which snapshots a cull removes, and the interval of what is left |
 //! | `ends.rt` | the end of the snapshots that a cull removes whole |
-//! | `gaps.rt` | keys of places in a pyramid, with the first at its top |
+//! | `gaps.rt` | keys of places in a tournament, with the first at its top |
 //! | `linked.rt` | snapshots with their loads, in the order of links |
 //! | `links.rt` | places in an order of their own |
 //! | `snapshot.rt`, `peak.rt` | what is offered and kept; what a peak becomes |

@@ -29,7 +29,7 @@ impl<R: MassifFileReport> LineTaker for MassifFileTaker<R> {
     ghost is_sound = { λ taker.
         (lines : List (List ℕ)) × StandsFor taker.reader lines × All IsLine lines };
 
-    ghost weight = { λ _. 0 };
+    ghost measure = { λ _. 0 };
 
     fn line(
         &mut self,

@@ -25,7 +25,7 @@ use Rattle.live_ledger.specs.LedgerState.{IsHeld, LedgerState}
 use Rattle.trace_reading.specs.PassesFront.{PassesFront}
 use Rattle.trace_reading.specs.Following.{Following, HasFollowed, IsAsBefore, IsNew, MayTake, events_in}
 use Rattle.trace_reading.specs.PeaksView.{peaks_view}
-use Rattle.trace_reading.specs.Reading.{HasRead, HasReadFirst, IsSound, weight_of}
+use Rattle.trace_reading.specs.Reading.{HasRead, HasReadFirst, IsSound, measure_of}
 use Rattle.trace_reading.specs.TotalsView.{totals_view}
 use Rattle.trace_reading.specs.TraceFault.{told}
 use Rattle.trace_reading.specs.TraceReport.{EventFaults, content_fault, fault_among, patterns_before, tables_behind}
@@ -69,9 +69,9 @@ new_sound now follower nodes infos fresh = record {
 }
 
 -- and weighs nothing
-pub new_weight : (now : TableState) (follower : Following) → now.nodes ≡ [] → IsNew now follower
-    → weight_of now follower ≡ 0
-new_weight now follower nodes fresh = omega (arith, fresh.events, ap length nodes)
+pub new_measure : (now : TableState) (follower : Following) → now.nodes ≡ [] → IsNew now follower
+    → measure_of now follower ≡ 0
+new_measure now follower nodes fresh = omega (arith, fresh.events, ap length nodes)
 
 -- no line was read of it, behind the patterns that its tables hold
 pub new_read : (now : TableState) (follower : Following) (given : List (List ℕ)) → IsNew now follower
@@ -132,28 +132,28 @@ taken_line faults now given patterns earlier line brought are none stands is =
     (ap₂ (λ state says. fault_among faults state (events earlier) (event_of says))
     (sym (tables_are now given patterns (earlier ++ line ∷ []) are stands)) (sym is))
 
--- what a step adds to the weight is within its line
-event_weight : (event : Event) → 4 ≤ least_length_of event + 1
-event_weight (Alloc info stack size) = omega arith
-event_weight (Free info stack size) = omega arith
-event_weight (Tick ms) = omega arith
+-- what a step adds to the measure is within its line
+event_measure : (event : Event) → 4 ≤ least_length_of event + 1
+event_measure (Alloc info stack size) = omega arith
+event_measure (Free info stack size) = omega arith
+event_measure (Tick ms) = omega arith
 
-step_weight : (brought : Step) → 4 * events_in brought + stacks_in brought ≤ least_length brought + 1
-step_weight step.Nothing = omega arith
-step_weight step.Stack = omega arith
-step_weight (step.Info stack size) = omega arith
-step_weight (step.Event event) = omega (arith, event_weight event)
+step_measure : (brought : Step) → 4 * events_in brought + stacks_in brought ≤ least_length brought + 1
+step_measure step.Nothing = omega arith
+step_measure step.Stack = omega arith
+step_measure (step.Info stack size) = omega arith
+step_measure (step.Event event) = omega (arith, event_measure event)
 
-pub weight_still : (old new : TableState) (follower grown : Following) (brought : Step) (size : ℕ)
+pub measure_still : (old new : TableState) (follower grown : Following) (brought : Step) (size : ℕ)
     → Grows old brought new → HasFollowed new follower grown brought → least_length brought ≤ size
-    → weight_of new grown ≤ weight_of old follower + size + 1
-weight_still old new follower grown brought size grows followed least =
-    omega (arith, step_weight brought, grows.stacks, followed.events, least)
+    → measure_of new grown ≤ measure_of old follower + size + 1
+measure_still old new follower grown brought size grows followed least =
+    omega (arith, step_measure brought, grows.stacks, followed.events, least)
 
 -- tables and a follower that took a step are sound still
 pub sound_still : (old new : TableState) (follower grown : Following) (brought : Step) (sound : IsSound old follower)
     → Grows old brought new → HasFollowed new follower grown brought
-    → follower.stands new sound.taken → weight_of new grown ≤ 2 ^ 34 + 1 → IsSound new grown
+    → follower.stands new sound.taken → measure_of new grown ≤ 2 ^ 34 + 1 → IsSound new grown
 sound_still old new follower grown brought sound grows followed stands few = record {
   beside = record {
     stacks = omega (arith, followed.stacks, sound.beside.stacks, grows.stacks);
@@ -168,7 +168,7 @@ sound_still old new follower grown brought sound grows followed stands few = rec
 -- what a line brings may be taken, beside the tables with it
 pub may_take : (old new : TableState) (follower : Following) (brought : Step) (size : ℕ) (sound : IsSound old follower)
     → CanTake follower.ledger brought → HasHeldStack new brought → Grows old brought new
-    → follower.stands new sound.taken → least_length brought ≤ size → weight_of old follower + size ≤ 2 ^ 34
+    → follower.stands new sound.taken → least_length brought ≤ size → measure_of old follower + size ≤ 2 ^ 34
     → MayTake new follower brought
 may_take old new follower brought size sound can held grows stands least room = record {
   sound = sound.follower_sound;
@@ -205,7 +205,7 @@ same_tables now event = record { stacks = omega arith; infos = sym (append-nil n
 -- the line of an event at the front may be taken
 pub may_take_event : (now : TableState) (follower : Following) (event : Event) (size : ℕ) → IsSound now follower
     → IsHeld follower.ledger event → HasHeldEvent now event → least_length_of event ≤ size
-    → weight_of now follower + size ≤ 2 ^ 34 → MayTake now follower (step.Event event)
+    → measure_of now follower + size ≤ 2 ^ 34 → MayTake now follower (step.Event event)
 may_take_event now follower event size sound held stack least room =
     may_take now now follower (step.Event event) size sound held stack (same_tables now event) sound.stands least room
 
@@ -213,18 +213,18 @@ may_take_event now follower event size sound held stack least room =
 pub first_read : (faults : EventFaults) (now : TableState) (follower grown : Following) (ready : List ℕ) (bytes : ℕ)
     (event : Event)
     → IsSound now follower → PassesFront now ready bytes event → 3 < bytes
-    → bytes ≤ length ready → weight_of now follower + length ready ≤ 2 ^ 34
+    → bytes ≤ length ready → measure_of now follower + length ready ≤ 2 ^ 34
     → HasFollowed now follower grown (step.Event event)
     → ((taken : List Event) → follower.stands now taken → faults now taken event ≡ None)
     → HasReadFirst faults now follower grown ready (Some bytes)
 first_read faults now follower grown ready bytes event sound front least held room followed none =
-    let weight : weight_of now grown ≤ weight_of now follower + bytes = omega (arith, followed.events, least) in
+    let measure : measure_of now grown ≤ measure_of now follower + bytes = omega (arith, followed.events, least) in
     record {
       sound =
           sound_still now now follower grown (step.Event event) sound (same_tables now event) followed sound.stands
-          (omega (arith, weight, held, room));
+          (omega (arith, measure, held, room));
       held = held;
-      weight = weight;
+      measure = measure;
       taken = λ patterns text output. record {
         line = front.line;
         one_line = front.one_line;
@@ -263,8 +263,8 @@ first_unread faults now old new ready sound kept = record {
         sound.few;
   };
   held = omega arith;
-  weight =
-      subst (λ (ledger : LedgerState). 4 * ledger.totals.events + length now.nodes ≤ weight_of now old + 0)
+  measure =
+      subst (λ (ledger : LedgerState). 4 * ledger.totals.events + length now.nodes ≤ measure_of now old + 0)
       (sym kept.ledger) (omega arith);
   taken = λ patterns text output. record {
     kept = λ lines read. record {

@@ -21,7 +21,7 @@ use Rattle.trace_reading.specs.declared.fault.TraceFault.{TraceFault}
 use Rattle.ht_trace.specs.TableState.{TableState}
 use Rattle.trace_reading.specs.Following.{Following}
 use Rattle.trace_reading.specs.Reading.{HasRead, HasReadFirst, HasReadLine, HasReadOne, HasReadText, HasReadTo, IsSound}
-use Rattle.trace_reading.specs.Reading.{weight_of}
+use Rattle.trace_reading.specs.Reading.{measure_of}
 use Rattle.trace_reading.specs.TraceFault.{told}
 use Rattle.trace_reading.specs.TraceReport.{EventFaults, HaveNoFault, content_fault, trace_report}
 use Rattle.command_frame.proofs.Laws.{good_append}
@@ -146,8 +146,8 @@ front_first faults now old new text left bytes front left_is =
             );
       };
       fewer = omega (arith, rest, size, first.size);
-      weight = omega (arith, rest, size, first.size, front.weight);
-      more = λ some. omega (arith, rest, size, first.size, front.weight);
+      measure = omega (arith, rest, size, first.size, front.measure);
+      more = λ some. omega (arith, rest, size, first.size, front.measure);
     }
 
 -- no line was read at its front
@@ -217,11 +217,11 @@ module _ (faults : EventFaults) (old : TableState) (follower : Following) (now :
       empty [] none = refl
       empty (b ∷ left) none = absurd (omega (arith, none))
 
-  pub all_read : length rest ≡ 0 → weight_of now here ≤ weight_of old follower + length text + 1
+  pub all_read : length rest ≡ 0 → measure_of now here ≤ measure_of old follower + length text + 1
       → HasReadText faults old follower now here text
-  all_read none weight = record {
+  all_read none measure = record {
     sound = so_far.sound;
-    weight = weight;
+    measure = measure;
     read =
         λ patterns earlier has. subst (λ l. HasRead now here patterns (earlier ++ l)) (all none)
         (so_far.read patterns earlier has);
@@ -255,6 +255,6 @@ pub one_behind : (faults : EventFaults) (now : TableState) (old mid : Following)
 one_behind faults now old mid text front new grown left one = record {
   read = read_on faults now old now mid text text (none_first faults now old mid text front) new grown left one.read;
   fewer = one.fewer;
-  weight = omega (arith, one.weight, front.weight);
-  more = λ some. let room = one.more some in omega (arith, room, front.weight);
+  measure = omega (arith, one.measure, front.measure);
+  more = λ some. let room = one.more some in omega (arith, room, front.measure);
 }

@@ -19,8 +19,8 @@ use Rattle.trace_reading.specs.TraceFault.{told}
 use Rattle.trace_reading.specs.TraceReport.{EventFaults, HaveNoFault, content_fault, end_fault, fault_among}
 use Rattle.trace_reading.specs.TraceReport.{patterns_before}
 
-abbrev pub weight_of : {F : Type 0} → (F → Following) → Trace F → ℕ
-weight_of view trace = reading.weight_of trace.tables (view trace.follower)
+abbrev pub measure_of : {F : Type 0} → (F → Following) → Trace F → ℕ
+measure_of view trace = reading.measure_of trace.tables (view trace.follower)
 
 abbrev pub IsSound : {F : Type 0} → (F → Following) → Trace F → Type 0
 IsSound view trace = reading.IsSound trace.tables (view trace.follower)
@@ -83,7 +83,7 @@ pub record HasReadNothing {F : Type 0} (view : F → Following) (tables : TableS
   pub read : (texts : List (List ℕ)) → StandsAfter tables texts []
       → HasRead view trace (patterns_before given trace.tables) []
   pub patterns : patterns_before given trace.tables ≡ tables.patterns
-  pub weight : weight_of view trace ≡ 0
+  pub measure : measure_of view trace ≡ 0
 
 -- the lines may be all of a trace
 abbrev pub MayEnd : {F : Type 0} → (F → Following) → Trace F → Type 0

@@ -15,8 +15,8 @@ use Rattle.trace_reading.specs.Following.{Following}
 use Rattle.trace_reading.specs.TraceReport.{EventFaults, HaveNoFault, content_fault, trace_report}
 
 -- what the lines that were read take at least
-abbrev pub weight_of : TableState → Following → ℕ
-weight_of tables follower = 4 * follower.ledger.totals.events + length tables.nodes
+abbrev pub measure_of : TableState → Following → ℕ
+measure_of tables follower = 4 * follower.ledger.totals.events + length tables.nodes
 
 -- the follower has the stacks and infos of the tables and stands for some events beside them, and
 -- the lines may be those of a file
@@ -25,7 +25,7 @@ pub record IsSound (tables : TableState) (follower : Following) : Type 0 where
   pub follower_sound : follower.sound
   pub taken : List Event
   pub stands : follower.stands tables taken
-  pub few : weight_of tables follower ≤ 2 ^ 34 + 1
+  pub few : measure_of tables follower ≤ 2 ^ 34 + 1
 
 -- the tables stand for these lines, behind texts of suppressions that have the patterns, and the
 -- follower for their events
@@ -47,7 +47,7 @@ IsTextOfRead text tables follower bytes =
 pub record HasReadLine (faults : EventFaults) (tables : TableState) (follower : Following)
     (grown : TableState) (grown_follower : Following) (line : List ℕ) : Type 0 where
   pub sound : IsSound grown grown_follower
-  pub weight : weight_of grown grown_follower ≤ weight_of tables follower + length line + 1
+  pub measure : measure_of grown grown_follower ≤ measure_of tables follower + length line + 1
   pub no_fault : (patterns lines : List (List ℕ)) → HasRead tables follower patterns lines
       → content_fault faults patterns lines line ≡ None
   pub read : (patterns lines : List (List ℕ)) → HasRead tables follower patterns lines
@@ -60,7 +60,7 @@ pub record HasReadFirst (faults : EventFaults) (tables : TableState) (old new : 
     (ready : List ℕ) (answer : Option ℕ) : Type 0 where
   pub sound : IsSound tables new
   pub held : unwrap_or answer 0 ≤ length ready
-  pub weight : weight_of tables new ≤ weight_of tables old + unwrap_or answer 0
+  pub measure : measure_of tables new ≤ measure_of tables old + unwrap_or answer 0
   pub taken : (patterns : List (List ℕ)) (text : List (List ℕ) → List ℕ) (output : List ℕ)
       → TakesFirst (trace_report faults patterns text) (HasRead tables old patterns)
       (HasRead tables new patterns) ready output output answer
@@ -81,16 +81,16 @@ pub record HasReadOne (faults : EventFaults) (tables : TableState) (follower : F
     (grown : TableState) (grown_follower : Following) (text left : List ℕ) : Type 0 where
   pub read : HasReadTo faults tables follower grown grown_follower text left
   pub fewer : length left < length text
-  pub weight : weight_of grown grown_follower + length left
-      ≤ weight_of tables follower + length text + 1
-  pub more : 0 < length left → weight_of grown grown_follower + length left
-      ≤ weight_of tables follower + length text
+  pub measure : measure_of grown grown_follower + length left
+      ≤ measure_of tables follower + length text + 1
+  pub more : 0 < length left → measure_of grown grown_follower + length left
+      ≤ measure_of tables follower + length text
 
 -- all lines of a text were read without a fault, behind all lines that were read before
 pub record HasReadText (faults : EventFaults) (tables : TableState) (follower : Following)
     (grown : TableState) (grown_follower : Following) (text : List ℕ) : Type 0 where
   pub sound : IsSound grown grown_follower
-  pub weight : weight_of grown grown_follower ≤ weight_of tables follower + length text + 1
+  pub measure : measure_of grown grown_follower ≤ measure_of tables follower + length text + 1
   pub read : (patterns earlier : List (List ℕ)) → HasRead tables follower patterns earlier
       → HasRead grown grown_follower patterns (earlier ++ lines_of text)
   pub good : (patterns earlier : List (List ℕ)) → HasRead tables follower patterns earlier

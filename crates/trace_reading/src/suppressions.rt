@@ -37,7 +37,7 @@ impl LineTaker for SuppressionsTaker {
 
     ghost is_sound = { λ taker. IsGiven taker.tables };
 
-    ghost weight = { λ _. 0 };
+    ghost measure = { λ _. 0 };
 
     fn line(&mut self, line: &[u8], _output: &mut Vec<u8>) -> Result<(), LineRefusal<TraceFault>> {
         match self.tables.suppress(line) {

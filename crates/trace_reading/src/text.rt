@@ -2,7 +2,7 @@
 ghost use Rattle.std.specs.Prelude.{◌≡◌, ◌+◌, ◌^◌, ◌<◌, ◌≤◌, length, IfErr, IfOk, IfSome, OnOk};
 ghost use Rattle.std.specs.List.{position};
 ghost use Rattle.hp_outside.specs.Lines.{is_line_feed};
-ghost use Rattle.trace_reading.specs.ReadTrace.{HasReadOne, HasReadText, IsSound, RefusesText, weight_of};
+ghost use Rattle.trace_reading.specs.ReadTrace.{HasReadOne, HasReadText, IsSound, RefusesText, measure_of};
 
 use crate::fault::TraceFault;
 use crate::follower::Follower;
@@ -14,7 +14,7 @@ impl<F: Follower> Trace<F> {
     pub fn read_text(&mut self, text: &[u8]) -> Result<(), LineRefusal<TraceFault>>
         requires sound { IsSound F.view self.old }
         requires short { length text.now < 2 ^ 32 }
-        requires room { weight_of F.view self.old + length text.now < 2 ^ 34 }
+        requires room { measure_of F.view self.old + length text.now < 2 ^ 34 }
         ensures read { OnOk result (HasReadText F.faults F.view self.old self.new text.now) }
         ensures fault { IfErr result
             (λ refusal. RefusesText F.faults F.view self.old text.now refusal) }
@@ -35,7 +35,7 @@ impl<F: Follower> Trace<F> {
         requires sound { IsSound F.view self.old }
         requires some { 0 < length text.now }
         requires short { length text.now < 2 ^ 32 }
-        requires room { weight_of F.view self.old + length text.now ≤ 2 ^ 34 }
+        requires room { measure_of F.view self.old + length text.now ≤ 2 ^ 34 }
         ensures read { IfOk result
             (λ rest. HasReadOne F.faults F.view self.old self.new text.now rest.now) }
         ensures fault { IfErr result
@@ -55,7 +55,7 @@ impl<F: Follower> Trace<F> {
         requires sound { IsSound F.view self.old }
         requires some { 0 < length text.now }
         requires short { length text.now < 2 ^ 32 }
-        requires room { weight_of F.view self.old + length text.now ≤ 2 ^ 34 }
+        requires room { measure_of F.view self.old + length text.now ≤ 2 ^ 34 }
         ensures read { IfOk result
             (λ rest. HasReadOne F.faults F.view self.old self.new text.now rest.now) }
         ensures fault { IfErr result

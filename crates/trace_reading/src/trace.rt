@@ -4,7 +4,7 @@ ghost use Rattle.std.specs.Prelude.{◌≡◌, ◌+◌, ◌^◌, ◌<◌, ◌≤
 ghost use Rattle.ht_trace.specs.Continues.{Continues};
 ghost use Rattle.trace_reading.specs.Following.{HasFollowed, MayTake};
 ghost use Rattle.trace_reading.specs.ReadTrace.{HasNoEventFault, HasReadFirst, HasReadLine, IsSound, MayEnd};
-ghost use Rattle.trace_reading.specs.ReadTrace.{RefusesEnd, RefusesLine, RefusesStep, weight_of};
+ghost use Rattle.trace_reading.specs.ReadTrace.{RefusesEnd, RefusesLine, RefusesStep, measure_of};
 
 use crate::fault::TraceFault;
 use crate::follower::Follower;
@@ -25,7 +25,7 @@ impl<F: Follower> Trace<F> {
     pub fn line(&mut self, line: &[u8]) -> Result<(), LineRefusal<TraceFault>>
         requires sound { IsSound F.view self.old }
         requires short { length line.now < 2 ^ 32 }
-        requires room { weight_of F.view self.old + length line.now ≤ 2 ^ 34 }
+        requires room { measure_of F.view self.old + length line.now ≤ 2 ^ 34 }
         ensures read { OnOk result (HasReadLine F.faults F.view self.old self.new line.now) }
         ensures fault { IfErr result
             (λ refusal. RefusesLine F.faults F.view self.old line.now refusal) }
@@ -59,7 +59,7 @@ impl<F: Follower> Trace<F> {
     #[inline(always)]
     pub fn front(&mut self, ready: &[u8]) -> Option<usize>
         requires sound { IsSound F.view self.old }
-        requires room { weight_of F.view self.old + length ready.now ≤ 2 ^ 34 }
+        requires room { measure_of F.view self.old + length ready.now ≤ 2 ^ 34 }
         ensures tables { self.new.tables ≡ self.old.tables }
         ensures read { HasReadFirst F.faults F.view self.old self.new ready.now result }
     {

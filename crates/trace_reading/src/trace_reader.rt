@@ -2,7 +2,7 @@
 //! writer.
 ghost use Rattle.std.specs.Prelude.{◌≡◌, []};
 ghost use Rattle.trace_reading.specs.Following.{IsNew};
-ghost use Rattle.trace_reading.specs.ReadTrace.{HasRead, HasReadNothing, IsReady, weight_of};
+ghost use Rattle.trace_reading.specs.ReadTrace.{HasRead, HasReadNothing, IsReady, measure_of};
 ghost use Rattle.trace_reading.specs.TraceReport.{patterns_before, trace_report};
 
 use crate::fault::TraceFault;
@@ -53,7 +53,7 @@ impl<F: Follower, W: TraceWriter<F>> LineTaker for TraceReader<F, W> {
 
     ghost is_sound = { λ reader. IsReady F.view reader.trace reader.given };
 
-    ghost weight = { λ reader. weight_of F.view reader.trace };
+    ghost measure = { λ reader. measure_of F.view reader.trace };
 
     fn line(&mut self, line: &[u8], _output: &mut Vec<u8>) -> Result<(), LineRefusal<TraceFault>> {
         self.trace.line(line)

@@ -89,7 +89,7 @@ module _ (old : Trace PeakTotalsState) (before after : Generator) (lines : List 
         taken.split
         ∙ (ap (λ more. taken.taken ++ more) made.split ∙ sym (append_assoc taken.taken made.lines (lines_yet after)));
     no_fault = back_good taken.taken made.lines (lines_yet after) made_good;
-    room = omega (arith, read.weight, made.short, fewer, taken.room, some);
+    room = omega (arith, read.measure, made.short, fewer, taken.room, some);
   }
 
   -- no line is left

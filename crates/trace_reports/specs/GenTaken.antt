@@ -7,7 +7,7 @@ use Rattle.sound_traces.specs.NoFault.{HasNoFault}
 use Rattle.peak_costs.specs.PeakTotals.{PeakTotalsState}
 use Rattle.trace_reading.specs.declared.trace.Trace.{Trace}
 use Rattle.trace_reading.specs.TotalsView.{totals_view}
-use Rattle.trace_reading.specs.ReadTrace.{HasRead, IsSound, weight_of}
+use Rattle.trace_reading.specs.ReadTrace.{HasRead, IsSound, measure_of}
 
 -- some of these lines were read, and a generator has yet to make the others, which have no fault behind them
 pub record HasTaken (trace : Trace PeakTotalsState) (generator : Generator)
@@ -18,7 +18,7 @@ pub record HasTaken (trace : Trace PeakTotalsState) (generator : Generator)
   pub read : HasRead totals_view trace [] taken
   pub split : lines ≡ taken ++ lines_yet generator
   pub no_fault : HasNoFault taken (lines_yet generator)
-  pub room : weight_of totals_view trace + 64 * length (lines_yet generator) ≤ 2 ^ 30
+  pub room : measure_of totals_view trace + 64 * length (lines_yet generator) ≤ 2 ^ 30
 
 -- a generator has yet to make lines of which none has a fault, and a trace has read none
 pub record MayRead (generator : Generator) (trace : Trace PeakTotalsState) : Type 0 where
@@ -27,4 +27,4 @@ pub record MayRead (generator : Generator) (trace : Trace PeakTotalsState) : Typ
   pub good : HasNoFault [] (lines_yet generator)
   pub sound : IsSound totals_view trace
   pub new_trace : HasRead totals_view trace [] []
-  pub no_weight : weight_of totals_view trace ≡ 0
+  pub no_measure : measure_of totals_view trace ≡ 0

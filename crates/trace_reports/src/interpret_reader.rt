@@ -27,7 +27,7 @@ impl LineTaker for SymbolReader {
 
     ghost is_sound = { λ _. Unit {0} };
 
-    ghost weight = { λ _. 0 };
+    ghost measure = { λ _. 0 };
 
     fn line(
         &mut self,
@@ -61,7 +61,7 @@ impl LineTaker for RawReader {
 
     ghost is_sound = { λ _. Unit {0} };
 
-    ghost weight = { λ _. 0 };
+    ghost measure = { λ _. 0 };
 
     fn line(&mut self, line: &[u8], output: &mut Vec<u8>) -> Result<(), LineRefusal<TraceFault>> {
         match self.interpreter.line(line, output) {

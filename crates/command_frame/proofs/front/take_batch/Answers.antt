@@ -16,7 +16,7 @@ returns-in_default g c =
       held = omega arith;
       few = omega arith;
       sound = c.front.ensures.sound;
-      weight = c.in_default.ensures.weight;
+      measure = c.in_default.ensures.measure;
       report = c.front.ensures.report;
     }
 
@@ -28,7 +28,7 @@ take_lines-more-requires-clause-room g c =
     let size : length c.split_at.result.1.now ≡ length c.args.ready.now - c.in-Some.bytes =
     ap length c.split_at.ensures.back ∙ length-drop c.in-Some.bytes c.args.ready.now in
     let within = line_within _ _ _ c.args.ready.now c.in-Some.bytes c.in-Some.ensures.taken in
-    omega (arith, size, within, c.in-Some.ensures.weight, c.requires.room)
+    omega (arith, size, within, c.in-Some.ensures.measure, c.requires.room)
 
 pub returns : goal.returns
 returns g c =
@@ -54,6 +54,6 @@ returns g c =
       held = omega (arith, size, within, more.held);
       few = omega (arith, some, more.few);
       sound = more.sound;
-      weight = omega (arith, more.weight, c.in-Some.ensures.weight);
+      measure = omega (arith, more.measure, c.in-Some.ensures.measure);
       report = more.report ∙ c.front.ensures.report;
     }

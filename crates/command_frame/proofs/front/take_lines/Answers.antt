@@ -15,7 +15,7 @@ lines-init g c =
       left = all_left c.args.ready.now;
       few = omega arith;
       sound = c.requires.sound;
-      weight = omega arith;
+      measure = omega arith;
       report = refl;
       front =
           subst (λ (bytes : ℕ). HasGivenFront report has has c.args.ready.now bytes 0 output output) none
@@ -43,7 +43,7 @@ lines-preserved g c =
       left = next.is_left;
       few = omega (arith, some, held.few, next.size);
       sound = c.front.ensures.sound;
-      weight = omega (arith, c.in-Some.ensures.weight, held.weight, next.size);
+      measure = omega (arith, c.in-Some.ensures.measure, held.measure, next.size);
       report = c.front.ensures.report ∙ held.report;
       front =
           subst (λ (n : ℕ). HasGivenFront report (g.T.LineTaker.has_taken c.args.taker.now) new c.args.ready.now n
@@ -64,6 +64,6 @@ returns-in_default g c =
       held = omega arith;
       few = held.few;
       sound = c.front.ensures.sound;
-      weight = omega (arith, c.in_default.ensures.weight, held.weight);
+      measure = omega (arith, c.in_default.ensures.measure, held.measure);
       report = c.front.ensures.report ∙ held.report;
     }

@@ -9,7 +9,7 @@ invariant-lines g l = record {
   left : IsLeft l.ready l.rest;
   few : l.lines ≤ length l.ready - length l.rest;
   sound : g.T.LineTaker.is_sound l.taker;
-  weight : g.T.LineTaker.weight l.taker ≤ g.T.LineTaker.weight l.initial.taker + (length l.ready - length l.rest);
+  measure : g.T.LineTaker.measure l.taker ≤ g.T.LineTaker.measure l.initial.taker + (length l.ready - length l.rest);
   report : g.T.LineTaker.report l.taker ≡ g.T.LineTaker.report l.initial.taker;
   front : HasGivenFront (g.T.LineTaker.report l.initial.taker) (g.T.LineTaker.has_taken l.initial.taker)
       (g.T.LineTaker.has_taken l.taker) l.ready (length l.ready - length l.rest) l.lines

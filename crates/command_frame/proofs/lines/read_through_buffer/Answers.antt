@@ -20,7 +20,7 @@ lines-init g c = record {
   given = omega (arith, c.requires.file.new.given);
   ended = λ ended. absurd (cc);
   sound = c.requires.taker.sound;
-  weight = omega (arith, c.requires.taker.no_weight);
+  measure = omega (arith, c.requires.taker.no_measure);
   report = refl;
   reading =
       reading_new (bounds_at c.args.lines.now) (g.T.LineTaker.report c.args.taker.now)
@@ -64,7 +64,7 @@ lines-preserved g c =
       given = ready.bounded;
       ended = λ ended. next.store.end (sym ready.ended ∙ ended);
       sound = ready.sound;
-      weight = ready.weight;
+      measure = ready.measure;
       report = ready.report ∙ (taken.report ∙ held.report);
       reading =
           read_batch (bounds_at c.args.lines.now) report (g.T.LineTaker.has_taken c.line-in-Ok-Some.new.self)

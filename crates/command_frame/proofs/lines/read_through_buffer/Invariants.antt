@@ -13,7 +13,7 @@ invariant-lines g l = record {
   given : l.lines.given ≤ l.lines.input + 1;
   ended : l.lines.ended ≡ true → WhereTold (g.S.Store.left l.store) (λ bytes. bytes ≡ []);
   sound : g.T.LineTaker.is_sound l.taker;
-  weight : g.T.LineTaker.weight l.taker ≤ l.lines.given;
+  measure : g.T.LineTaker.measure l.taker ≤ l.lines.given;
   report : g.T.LineTaker.report l.taker ≡ g.T.LineTaker.report l.initial.taker;
   reading : Reading (bounds_at l.initial.lines) (g.T.LineTaker.report l.initial.taker) (g.T.LineTaker.has_taken l.taker)
       l.lines (g.S.Store.left l.initial.store) (g.S.Store.left l.store)

@@ -9,7 +9,7 @@ returns-then-is_empty g c = record {
       nothing_kept (g.T.LineTaker.report c.args.taker.now) (g.T.LineTaker.has_taken c.args.taker.now) c.args.lines.now
       (omega (arith, c.ready_lines-ready.ensures.within));
   sound = c.requires.sound;
-  weight = c.requires.weight;
+  measure = c.requires.measure;
   report = refl;
   given = omega arith;
   bounded = c.requires.given;
@@ -26,7 +26,7 @@ returns-then-line_limit-lt-LONGEST_AT_ONCE g c = record {
       nothing_kept (g.T.LineTaker.report c.args.taker.now) (g.T.LineTaker.has_taken c.args.taker.now) c.args.lines.now
       (omega (arith, c.ready_lines-ready.ensures.within));
   sound = c.requires.sound;
-  weight = c.requires.weight;
+  measure = c.requires.measure;
   report = refl;
   given = omega arith;
   bounded = c.requires.given;

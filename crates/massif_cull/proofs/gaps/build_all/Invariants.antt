@@ -1,5 +1,5 @@
 use Rattle.std.proofs.Common.{◌≡◌, drop, length}
-use Rattle.massif_cull.proofs.Pyramid.{AreFound}
+use Rattle.massif_cull.proofs.Tournament.{AreFound}
 use Rattle.massif_cull.proofs.gaps.build_all.Given as goal
 
 abbrev pub invariant-nodes : goal.invariant-nodes

@@ -12,7 +12,7 @@ pub run_one_file-requires-clause-taker : goal.run_one_file-requires-clause-taker
 run_one_file-requires-clause-taker g c = record {
   sound = c.new-reader.ensures.no_lines.sound;
   no_lines = c.new-reader.ensures.no_lines.read [] c.new.ensures.stands;
-  no_weight = c.new-reader.ensures.no_lines.weight;
+  no_measure = c.new-reader.ensures.no_lines.measure;
 }
 
 pub returns : goal.returns

@@ -4,7 +4,7 @@ use Rattle.trace_gen.specs.GeneratorState.{lines_yet}
 use Rattle.trace_gen.specs.Sizes.{sizes_of}
 use Rattle.sound_traces.specs.NoFault.{HasNoFault}
 use Rattle.trace_reading.specs.TotalsView.{totals_view}
-use Rattle.trace_reading.proofs.Laws.{new_totals, new_sound, new_weight}
+use Rattle.trace_reading.proofs.Laws.{new_totals, new_sound, new_measure}
 use Rattle.trace_reports.proofs.GenLemmas.{summary_of_lines}
 use Rattle.trace_reports.proofs.gen_summary.gen_summary.Goals as goal
 
@@ -28,7 +28,7 @@ summarize-summary-requires c =
         tables_of = c.new-tables.ensures.stands;
         stands = totals.stands;
       };
-      no_weight = new_weight tables follower c.new-tables.ensures.nodes new;
+      no_measure = new_measure tables follower c.new-tables.ensures.nodes new;
     }
 
 pub returns : goal.returns

@@ -1,6 +1,6 @@
 use Rattle.std.proofs.Common.{ap, length, ◌∙◌}
 use Rattle.std.proofs.lemmas.List.{length-map}
-use Rattle.massif_cull.proofs.Pyramid.{keys-cleared, keys-same}
+use Rattle.massif_cull.proofs.Tournament.{keys-cleared, keys-same}
 use Rattle.massif_cull.proofs.gaps.Gaps.clear.Goals as goal
 
 pub returns-clause-length : goal.returns-clause-length

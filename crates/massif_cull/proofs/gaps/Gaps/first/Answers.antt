@@ -2,8 +2,8 @@ use Rattle.std.proofs.Common.{sym, subst, ◌∙◌, arith}
 use Rattle.std.proofs.lemmas.List.{get_or_default}
 use Rattle.massif_cull.specs.declared.gaps.Key.{Key}
 use Rattle.massif_cull.specs.Keys.{no_key, IsFirst}
-use Rattle.massif_cull.specs.Pyramid.{gaps_of}
-use Rattle.massif_cull.proofs.Pyramid.{top-first, some-nodes}
+use Rattle.massif_cull.specs.Tournament.{gaps_of}
+use Rattle.massif_cull.proofs.Tournament.{top-first, some-nodes}
 use Rattle.massif_cull.proofs.gaps.Gaps.first.Goals as goal
 
 pub index-requires : goal.index-requires

@@ -1,6 +1,6 @@
 use Rattle.std.proofs.Common.{arith}
 use Rattle.std.proofs.lemmas.List.{drop-set-add}
-use Rattle.massif_cull.proofs.Pyramid.{node-inside}
+use Rattle.massif_cull.proofs.Tournament.{node-inside}
 use Rattle.massif_cull.proofs.gaps.Gaps.put.Goals as goal
 
 pub index_mut-requires : goal.index_mut-requires

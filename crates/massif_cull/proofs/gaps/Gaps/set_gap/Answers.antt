@@ -1,5 +1,5 @@
 use Rattle.std.proofs.Common.{◌∙◌, arith}
-use Rattle.massif_cull.proofs.Pyramid.{gap-made, node-inside}
+use Rattle.massif_cull.proofs.Tournament.{gap-made, node-inside}
 use Rattle.massif_cull.proofs.gaps.Gaps.set_gap.Goals as goal
 
 pub index-requires : goal.index-requires

@@ -1,7 +1,7 @@
 use Rattle.std.proofs.Common.{◌≡◌, ◌+◌, ◌-◌, ℕ, true, false, length, ap, sym, ◌∙◌, arith}
-use Rattle.massif_cull.specs.Ends.{goers}
+use Rattle.massif_cull.specs.Ends.{count_may_go}
 use Rattle.massif_cull.specs.Entries.{is_peak_at}
-use Rattle.massif_cull.proofs.EndLemmas.{goers-goes, goers-stays}
+use Rattle.massif_cull.proofs.EndLemmas.{count_may_go-goes, count_may_go-stays}
 use Rattle.massif_cull.proofs.Places.{may_go-inside, may_go-peak, peak-of}
 use Rattle.massif_cull.proofs.linked.LinkedSnaps.end_of.Goals as goal
 
@@ -14,7 +14,7 @@ back-init g c =
       some = omega arith;
       inside = omega arith;
       most = omega arith;
-      found = ap (goers c.args.self.now.entries c.in_ok-snap_at.snap_at.index) none;
+      found = ap (count_may_go c.args.self.now.entries c.in_ok-snap_at.snap_at.index) none;
     }
 
 pub back-preserved-then-is_peak_entry : goal.back-preserved-then-is_peak_entry
@@ -29,7 +29,7 @@ back-preserved-then-is_peak_entry g c =
       some = omega arith;
       inside = (let inside = so_far.inside in omega arith);
       most = so_far.most;
-      found = goers-stays entries _ _ index so_far.inside (may_go-peak entries _ peak) ∙ so_far.found;
+      found = count_may_go-stays entries _ _ index so_far.inside (may_go-peak entries _ peak) ∙ so_far.found;
     }
 
 pub back-preserved : goal.back-preserved
@@ -46,7 +46,7 @@ back-preserved g c =
       inside = omega arith;
       most = omega arith;
       found =
-          goers-goes entries _ _ index so_far.inside (may_go-inside entries _ (omega arith) (omega arith) normal)
+          count_may_go-goes entries _ _ index so_far.inside (may_go-inside entries _ (omega arith) (omega arith) normal)
           ∙ ap (λ (n : ℕ). n + 1) so_far.found;
     }
 

@@ -1,5 +1,5 @@
 use Rattle.std.proofs.Common.{◌≡◌, ◌-◌, ◌<◌, ◌≤◌, length}
-use Rattle.massif_cull.specs.Ends.{goers}
+use Rattle.massif_cull.specs.Ends.{count_may_go}
 use Rattle.massif_cull.specs.SnapsState.{IsNumberedSnap}
 use Rattle.massif_cull.proofs.linked.LinkedSnaps.end_of.Given as goal
 
@@ -9,7 +9,7 @@ invariant-back g l = record {
   some : 0 < l.snap_at.index;
   inside : l.snap_at.index < length l.self.entries;
   most : l.found ≤ l.count;
-  found : goers l.self.entries l.snap_at.index (length l.self.entries - 1 - l.snap_at.index) ≡ l.found;
+  found : count_may_go l.self.entries l.snap_at.index (length l.self.entries - 1 - l.snap_at.index) ≡ l.found;
 }
 
 abbrev pub decreases-back : goal.decreases-back

@@ -9,5 +9,5 @@ pub returns-clause-new : goal.returns-clause-new
 returns-clause-new g c = record {
   sound = c.new-2.ensures.no_lines.sound;
   no_lines = c.new-2.ensures.no_lines.read c.requires.sound.given c.requires.sound.stands;
-  no_weight = c.new-2.ensures.no_lines.weight;
+  no_measure = c.new-2.ensures.no_lines.measure;
 }

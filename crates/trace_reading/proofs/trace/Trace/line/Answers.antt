@@ -6,7 +6,7 @@ use Rattle.command_frame.specs.Taker.{Tells}
 use Rattle.command_frame.specs.Told.{Told}
 use Rattle.trace_reading.specs.TraceFault.{told}
 use Rattle.trace_reading.specs.declared.fault.TraceFault.TheVariants.{Event as event_fault}
-use Rattle.trace_reading.proofs.ReadingLemmas.{has_read, may_take, sound_still, taken_line, weight_still}
+use Rattle.trace_reading.proofs.ReadingLemmas.{has_read, may_take, sound_still, taken_line, measure_still}
 use Rattle.trace_reading.proofs.trace.Trace.line.Goals as goal
 
 pub take_step-requires : goal.take_step-requires
@@ -28,14 +28,14 @@ returns-in-Ok-take_step-clause-read g c =
     let goes : (taken : List Event) → old.stands before.tables taken → old.stands c.line.new.self taken =
     λ taken stands. c.goes_on.ensures before.tables c.line.new.self taken line.continues stands in
     let followed = c.in-Ok-take_step.ensures.followed in
-    let weight =
-    weight_still before.tables c.line.new.self old new c.in-Ok.step (length c.args.line.now) line.grows followed
+    let measure =
+    measure_still before.tables c.line.new.self old new c.in-Ok.step (length c.args.line.now) line.grows followed
     line.least_length in
     record {
       sound =
           sound_still before.tables c.line.new.self old new c.in-Ok.step c.requires.sound line.grows followed
-          (goes c.requires.sound.taken c.requires.sound.stands) (omega (arith, weight, c.requires.room));
-      weight = weight;
+          (goes c.requires.sound.taken c.requires.sound.stands) (omega (arith, measure, c.requires.room));
+      measure = measure;
       no_fault = λ patterns lines has.
           taken_line g.F.Follower.faults c.line.new.self has.given patterns lines c.args.line.now c.in-Ok.step
           has.patterns_are (line.no_fault has.given lines has.tables_of) (line.stands has.given lines has.tables_of)

@@ -1,6 +1,6 @@
 use Rattle.std.proofs.Common.{◌+◌, ◌^◌, ◌≤◌, length, subst, sym, arith}
 use Rattle.ht_trace.specs.TableState.{TableState}
-use Rattle.trace_reading.specs.Reading.{HasReadOne, HasReadTo, IsSound, weight_of}
+use Rattle.trace_reading.specs.Reading.{HasReadOne, HasReadTo, IsSound, measure_of}
 use Rattle.trace_reading.proofs.TextLemmas.{front_first, none_first, one_behind, rest_refused}
 use Rattle.trace_reading.proofs.trace.Trace.read_first.Goals as goal
 
@@ -22,11 +22,11 @@ read_line-requires-clause-sound g c =
 
 pub read_line-requires-clause-room : goal.read_line-requires-clause-room
 read_line-requires-clause-room g c =
-    subst (λ (tables : TableState). weight_of tables (g.F.Follower.view c.front.new.self.follower)
+    subst (λ (tables : TableState). measure_of tables (g.F.Follower.view c.front.new.self.follower)
     + length c.args.text.now
     ≤ 2 ^ 34) (sym
     c.front.ensures.tables)
-    (omega (arith, c.in-None.ensures.read.weight, c.requires.room))
+    (omega (arith, c.in-None.ensures.read.measure, c.requires.room))
 
 pub returns-in-Ok-clause-read : goal.returns-in-Ok-clause-read
 returns-in-Ok-clause-read g c =

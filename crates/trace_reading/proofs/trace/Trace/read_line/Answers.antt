@@ -13,7 +13,7 @@ returns-in-Ok-clause-read g c = record {
       ∙ ap₂ (λ line left. line ∷ lines_of left) (sym c.split_at.ensures.front) (sym c.split_at-in-Ok.ensures.back))
       c.line.new.self.tables (g.F.Follower.view c.line.new.self.follower) c.in-Ok.ensures.read;
   fewer = search rules;
-  weight = search rules;
+  measure = search rules;
   more = search rules;
 }
 
@@ -33,7 +33,7 @@ returns-in-Ok-line-clause-read g c = record {
       c.args.text.now (only_line_is c.args.text.now c.requires.some (sym c.in-None.ensures.place))
       c.line-in-None.new.self.tables (g.F.Follower.view c.line-in-None.new.self.follower) c.in-Ok-line.ensures.read;
   fewer = search rules;
-  weight = search rules;
+  measure = search rules;
   more = search rules;
 }
 

@@ -1,6 +1,6 @@
 use Rattle.std.proofs.Common.{ℕ, List, [], sym, subst, arith}
 use Rattle.trace_reading.specs.Reading.{HasRead}
-use Rattle.trace_reading.proofs.ReadingLemmas.{before_all, new_read, new_sound, new_weight}
+use Rattle.trace_reading.proofs.ReadingLemmas.{before_all, new_read, new_sound, new_measure}
 use Rattle.trace_reading.proofs.trace_reader.TraceReader.new.Goals as goal
 
 pub returns-clause-no_lines : goal.returns-clause-no_lines
@@ -16,5 +16,5 @@ returns-clause-no_lines g c =
           subst (λ (before : List (List ℕ)). HasRead c.args.tables follower before []) (sym all)
           (new_read c.args.tables follower texts c.requires.new stands);
       patterns = all;
-      weight = new_weight c.args.tables follower c.requires.nodes c.requires.new;
+      measure = new_measure c.args.tables follower c.requires.nodes c.requires.new;
     }

@@ -1,4 +1,5 @@
--- The first of keys: what one choice of two says, that the top of a pyramid is the first of all, and how one is kept.
+-- The first of keys: what one choice of two says, that the top of a tournament is the first of all,
+-- and how one is kept.
 use Rattle.std.proofs.Common.{◌≡◌, ◌⊎◌, ℕ, ◌+◌, ◌-◌, ◌/◌, ◌<◌, ◌≤◌, zero, suc, true, List, [], ◌∷◌, length, drop, map}
 use Rattle.std.proofs.Common.{set, get_or, inl, inr, refl, sym, ap, subst, ◌∙◌, arith}
 use Rattle.std.proofs.lemmas.Bool.{cases_eq, cases_lt, lt-ltb, le-ltb}
@@ -7,7 +8,7 @@ use Rattle.std.proofs.lemmas.List.{length-set, length-drop}
 use Rattle.massif_cull.specs.declared.gaps.Key.{Key}
 use Rattle.massif_cull.specs.declared.gaps.Gaps.TheInside.{Inside}
 use Rattle.massif_cull.specs.Keys.{no_key, key_at, with_gap, first_of, IsNoLater, IsFirst, AreFirsts}
-use Rattle.massif_cull.specs.Pyramid.{IsPyramid, gaps_of}
+use Rattle.massif_cull.specs.Tournament.{IsTournament, gaps_of}
 
 -- ---- one choice
 
@@ -130,7 +131,7 @@ top-some nodes max size firsts (suc f) n few some inside =
     ]
 
 -- where there is a place there is a top
-pub some-nodes : (gaps : Inside) → IsPyramid gaps → 0 < length (gaps_of gaps).keys → 1 < length gaps.nodes.items
+pub some-nodes : (gaps : Inside) → IsTournament gaps → 0 < length (gaps_of gaps).keys → 1 < length gaps.nodes.items
 some-nodes gaps is some =
     let size = is.size in
     let long : length (drop gaps.max gaps.nodes.items) ≡ length gaps.nodes.items - gaps.max =
@@ -138,7 +139,7 @@ some-nodes gaps is some =
     omega arith
 
 -- the top is the first of the keys
-pub top-first : (gaps : Inside) → IsPyramid gaps → gaps.ready ≡ true → 0 < length (gaps_of gaps).keys
+pub top-first : (gaps : Inside) → IsTournament gaps → gaps.ready ≡ true → 0 < length (gaps_of gaps).keys
     → IsFirst (gaps_of gaps).keys (key_at gaps.nodes.items 1)
 top-first gaps is ready some =
     let nodes = gaps.nodes.items in
@@ -236,7 +237,7 @@ gap-made nodes max place gap key inside is =
     (node-read nodes (max + place) key inside is ∙ sym (get_or-drop max nodes place no_key))
 
 -- a place of a key has a node
-pub node-inside : (gaps : Inside) (place : ℕ) → IsPyramid gaps → place < length (gaps_of gaps).keys
+pub node-inside : (gaps : Inside) (place : ℕ) → IsTournament gaps → place < length (gaps_of gaps).keys
     → gaps.max + place < length gaps.nodes.items
 node-inside gaps place is inside =
     let size = is.size in
