@@ -97,6 +97,6 @@ report_of_trace options tables events =
 
 -- the report on a trace is appended, whichever events the peaks stand for
 abbrev pub AppendsReport : {E : Type 0} → PrintOptions → TableState → PeakState → Vec ℕ → Vec ℕ
-    → Result (Unit {0}) E → Type 0
+    → Result (Prim.Unit {0}) E → Type 0
 AppendsReport options tables peaks before after result =
     AppendsFor (StandsFor peaks) (report_of_trace options tables) before after result
