@@ -49,27 +49,28 @@ pub enum LineError {
 }
 
 impl LineError {
-    /// What the error is called, in few words and without the line's number.
+    /// What the error is called, in few words and without the line's number: what the grammar or a node table has too
+    /// is called as it is there.
     pub fn text(self) -> &'static str
         ensures { result.now ≡ error_text self }
     {
         match self {
-            LineError::BadField => "bad field",
-            LineError::MissingField => "missing field",
-            LineError::ExtraField => "extra field",
-            LineError::NotInterpreted => "raw line",
-            LineError::NotRaw => "interpreted line",
-            LineError::BadVersion => "file version not 1 to 3",
+            LineError::BadField => Malformed::BadField.text(),
+            LineError::MissingField => Malformed::MissingField.text(),
+            LineError::ExtraField => Malformed::ExtraField.text(),
+            LineError::NotInterpreted => Malformed::NotInterpreted.text(),
+            LineError::NotRaw => Malformed::NotRaw.text(),
+            LineError::BadVersion => Malformed::BadVersion.text(),
             LineError::NoVersion => "no version line",
             LineError::SecondVersion => "second version line",
             LineError::UnknownString => "unknown string",
             LineError::UnknownInstruction => "unknown instruction",
-            LineError::UnknownParent => "unknown parent",
+            LineError::UnknownParent => NodeFault::UnknownParent.text(),
             LineError::UnknownTrace => "unknown trace",
             LineError::UnknownAllocation => "unknown allocation",
-            LineError::TooDeep => "stack too deep",
+            LineError::TooDeep => NodeFault::TooDeep.text(),
             LineError::TooMany => "table full",
-            LineError::NoMemory => "out of memory",
+            LineError::NoMemory => NodeFault::NoMemory.text(),
         }
     }
 }
