@@ -4,7 +4,7 @@ ghost use Rattle.interpret.specs.SymbolFaultText.{fault_text};
 ghost use Rattle.interpret.specs.declared.fault.SymbolFault.TheVariants.{NoMemory as OutOfMemory};
 
 use hp_num::NoMemory;
-use std::alloc::{AllocError, AllocFailed};
+use ht_trace::LineError;
 use thiserror::Error;
 
 /// Why a line can't follow the lines before it in a symbol table.
@@ -21,38 +21,22 @@ pub enum SymbolFault {
 }
 
 impl SymbolFault {
-    /// What the fault is called, in few words.
+    /// What the fault is called, in few words: want of memory as at a line of a trace.
     pub fn text(self) -> &'static str
         ensures { result.now ≡ fault_text self }
     {
         match self {
             SymbolFault::BadSymbolLine => "bad symbol line",
             SymbolFault::SymbolOverlap => "symbols overlap",
-            SymbolFault::NoMemory => "out of memory",
+            SymbolFault::NoMemory => LineError::NoMemory.text(),
         }
     }
 }
 
-impl From<NoMemory> for SymbolFault {
+impl<E: Drop + Into<NoMemory>> From<E> for SymbolFault {
     ghost from_gives = { λ _ fault. fault ≡ OutOfMemory };
 
-    fn from(_: NoMemory) -> SymbolFault {
-        SymbolFault::NoMemory
-    }
-}
-
-impl From<AllocError> for SymbolFault {
-    ghost from_gives = { λ _ fault. fault ≡ OutOfMemory };
-
-    fn from(_: AllocError) -> SymbolFault {
-        SymbolFault::NoMemory
-    }
-}
-
-impl<T: Drop> From<AllocFailed<T>> for SymbolFault {
-    ghost from_gives = { λ _ fault. fault ≡ OutOfMemory };
-
-    fn from(_: AllocFailed<T>) -> SymbolFault {
+    fn from(_error: E) -> SymbolFault {
         SymbolFault::NoMemory
     }
 }
