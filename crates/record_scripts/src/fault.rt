@@ -4,7 +4,6 @@ ghost use Rattle.record_scripts.specs.declared.fault.ScriptFault.TheVariants.{No
 ghost use Rattle.record_scripts.specs.FaultText.{fault_text};
 
 use hp_num::NoMemory;
-use std::alloc::{AllocError, AllocFailed};
 use thiserror::Error;
 
 /// Why a line can't follow the lines before it. Where several apply, the first of these is told.
@@ -38,26 +37,10 @@ impl ScriptFault {
     }
 }
 
-impl From<NoMemory> for ScriptFault {
+impl<E: Drop + Into<NoMemory>> From<E> for ScriptFault {
     ghost from_gives = { λ _ fault. fault ≡ OutOfMemory };
 
-    fn from(_: NoMemory) -> ScriptFault {
-        ScriptFault::NoMemory
-    }
-}
-
-impl From<AllocError> for ScriptFault {
-    ghost from_gives = { λ _ fault. fault ≡ OutOfMemory };
-
-    fn from(_: AllocError) -> ScriptFault {
-        ScriptFault::NoMemory
-    }
-}
-
-impl<T: Drop> From<AllocFailed<T>> for ScriptFault {
-    ghost from_gives = { λ _ fault. fault ≡ OutOfMemory };
-
-    fn from(_: AllocFailed<T>) -> ScriptFault {
+    fn from(_error: E) -> ScriptFault {
         ScriptFault::NoMemory
     }
 }
