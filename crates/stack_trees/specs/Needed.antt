@@ -4,7 +4,7 @@ use Rattle.std.specs.Prelude.{◌≡◌, ℕ, ◌==◌, ◌+◌, if◌then◌els
 use Rattle.std.specs.Prelude.{◌≢◌, ◌<◌}
 use Rattle.std.specs.List.{range_with_len}
 use Rattle.cost_tree.specs.Costed.{costed}
-use Rattle.cost_tree.specs.GrowingLists.{caller_list, LastGains}
+use Rattle.cost_tree.specs.GrowingLists.{caller_list}
 use Rattle.cost_tree.specs.IsTreeOf.{IsTreeOf}
 use Rattle.cost_tree.specs.TreeState.{TreeState}
 use Rattle.ht_trace.specs.declared.frame.FrameAt.{FrameAt}
@@ -59,9 +59,3 @@ abbrev pub AppendsNeeded : ListForm → TableState → ℕ → ℕ → List (Lis
     → List (List (List ℕ)) → Type 0
 AppendsNeeded form tables stack cost old new =
     new ≡ old ++ needed form.most cost (inner_texts form tables stack) ∷ []
-
--- the last list has the first texts of a stack at its end too
-abbrev pub LastGainsStack : ListForm → TableState → ℕ → List (List (List ℕ))
-    → List (List (List ℕ)) → Type 0
-LastGainsStack form tables stack old new =
-    LastGains old (take form.most (inner_texts form tables stack)) new

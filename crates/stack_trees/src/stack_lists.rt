@@ -2,7 +2,7 @@
 //! What the tree says of them is no part of it.
 ghost use Rattle.std.specs.Prelude.{◌≡◌, ◌+◌, ◌-◌, ◌^◌, ◌<◌, ◌≤◌, All, length, IfOk, OnOk};
 ghost use Rattle.ht_trace.specs.IsFrame.{IsFrame};
-ghost use Rattle.stack_trees.specs.Needed.{AppendsNeeded, LastGainsStack, lists_needed};
+ghost use Rattle.stack_trees.specs.Needed.{AppendsNeeded, lists_needed};
 ghost use Rattle.stack_trees.specs.StackTexts.{GainsTexts};
 
 use crate::list_form::ListForm;
@@ -58,21 +58,6 @@ fn add_stack(
     if cost == 0 {
         return Ok(());
     }
-    push_stack(tables, stack, form, lists, buffers)
-}
-
-/// Appends the texts of the stack to the last list, of which there must be one.
-fn push_stack(
-    tables: &Tables,
-    stack: u32,
-    form: ListForm,
-    lists: &mut CallerLists,
-    buffers: &mut Buffers,
-) -> Result<(), NoMemory>
-    requires held { stack ≤ length tables.now.nodes }
-    requires begun { 0 < length lists.old }
-    ensures gained { OnOk result (LastGainsStack form tables.now stack lists.old lists.new) }
-{
     let Buffers { frames, text } = buffers;
     tables.frames_into(stack, frames)?;
     frames.truncate(form.most);

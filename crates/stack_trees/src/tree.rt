@@ -1,10 +1,9 @@
 //! The tree of what the stacks of a trace cost.
 //! What its nodes say is in `cost_tree`.
-ghost use Rattle.std.specs.Prelude.{◌≡◌, ◌+◌, ◌^◌, ◌≤◌, length, sum, IfOk};
+ghost use Rattle.std.specs.Prelude.{◌≡◌, ◌+◌, length, IfOk};
 ghost use Rattle.cost_tree.specs.Costs.{HasCosts, IsStated};
-ghost use Rattle.cost_tree.specs.IsTreeOf.{IsTreeOf};
 ghost use Rattle.cost_tree.specs.TreeState.{TreeState};
-ghost use Rattle.stack_trees.specs.StackTexts.{IsTreeOfStacks, stacks_towards};
+ghost use Rattle.stack_trees.specs.StackTexts.{IsTreeOfStacks};
 
 use crate::direction::Direction;
 use crate::trace_lists::trace_lists;
@@ -47,24 +46,7 @@ impl<'a> OfStacks for CostTree<'a> {
         depth: u32,
     ) -> Result<CostTree<'a>, NoMemory> {
         let costs = costing.list(alloc)?;
-        tree_of_stacks(alloc, tables, &costs, direction, style, depth)
+        let lists = trace_lists(alloc, tables, &costs, direction, style, depth)?;
+        CostTree::of_lists(alloc, lists, &costs, depth)
     }
-}
-
-/// The tree of the stacks of a trace with these costs, or `NoMemory`.
-fn tree_of_stacks<'a>(
-    alloc: Global,
-    tables: &Tables,
-    costs: &[u64],
-    direction: Direction,
-    style: Style,
-    depth: u32,
-) -> Result<CostTree<'a>, NoMemory>
-    requires as_many { length costs.now ≡ length tables.now.nodes + 1 }
-    requires bound { sum costs.now ≤ 2 ^ 62 }
-    ensures tree { IfOk result
-        (λ tree. IsTreeOf tree (stacks_towards direction style tables.now costs.now) depth) }
-{
-    let lists = trace_lists(alloc, tables, costs, direction, style, depth)?;
-    CostTree::of_lists(alloc, lists, costs, depth)
 }
