@@ -1,6 +1,7 @@
 -- How an event keeps the balance between sums and entries.
 use Rattle.std.proofs.Common.{◌≡◌, ℕ, ◌+◌, ◌-◌, ◌*◌, ◌<◌, ◌≤◌, List, [], ◌∷◌, ◌++◌, set, Bool, true, false, cond, refl}
 use Rattle.std.proofs.Common.{ap, ◌∙◌, zero-mul, arith}
+use Rattle.std.specs.Prelude.{sum_by}
 use Rattle.std.proofs.lemmas.List.Sums.{sum_by_push}
 use Rattle.live_ledger.specs.declared.totals_ledger.InfoEntry.{InfoEntry}
 use Rattle.live_ledger.specs.declared.sums.Sums.{Sums}
@@ -107,33 +108,27 @@ nothing-meant : (test : Bool) (n : ℕ) → n ≡ 0 → cond {A = ℕ} test n 0 
 nothing-meant true n none = none
 nothing-meant false n none = refl
 
+-- a new entry that has none of what is summed leaves the sum
+sum-push_none : (meant : InfoEntry → Bool) (part : InfoEntry → ℕ) (infos : List InfoEntry) (entry : InfoEntry)
+    → part entry ≡ 0
+    → sum_by (λ e. cond {A = ℕ} (meant e) (part e) 0) (infos ++ entry ∷ [])
+    ≡ sum_by (λ e. cond {A = ℕ} (meant e) (part e) 0) infos
+sum-push_none meant part infos entry none =
+    let nothing : cond {A = ℕ} (meant entry) (part entry) 0 ≡ 0 = nothing-meant (meant entry) (part entry) none in
+    omega (arith, sum_by_push (λ (e : InfoEntry). cond {A = ℕ} (meant e) (part e) 0) infos entry)
+
 -- a new entry without blocks and allocations keeps the balance
 pub balance-push : (own : Sums) (meant : InfoEntry → Bool) (infos : List InfoEntry) (entry : InfoEntry)
     → entry.blocks ≡ 0 → entry.calls ≡ 0 → Balances own meant infos → Balances own meant (infos ++ entry ∷ [])
 balance-push own meant infos entry no_blocks no_calls old =
     let no_bytes : entry.blocks * entry.size ≡ 0 = ap (λ (n : ℕ). n * entry.size) no_blocks ∙ zero-mul entry.size in
+    let bytes = sum-push_none meant (λ (e : InfoEntry). e.blocks * e.size) infos entry no_bytes in
+    let blocks = sum-push_none meant (λ (e : InfoEntry). e.blocks) infos entry no_blocks in
+    let calls = sum-push_none meant (λ (e : InfoEntry). e.calls) infos entry no_calls in
     record {
-      bytes =
-          omega (
-            arith,
-            sum_by_push (bytes_where meant) infos entry,
-            old.bytes,
-            nothing-meant (meant entry) (entry.blocks * entry.size) no_bytes,
-          );
-      blocks =
-          omega (
-            arith,
-            sum_by_push (blocks_where meant) infos entry,
-            old.blocks,
-            nothing-meant (meant entry) entry.blocks no_blocks,
-          );
-      calls =
-          omega (
-            arith,
-            sum_by_push (calls_where meant) infos entry,
-            old.calls,
-            nothing-meant (meant entry) entry.calls no_calls,
-          );
+      bytes = omega (arith, bytes, old.bytes);
+      blocks = omega (arith, blocks, old.blocks);
+      calls = omega (arith, calls, old.calls);
       temporary = old.temporary;
     }
 

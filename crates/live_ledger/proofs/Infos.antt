@@ -2,7 +2,7 @@
 use Rattle.std.proofs.Common.{◌≡◌, ℕ, ◌+◌, ◌*◌, ◌^◌, ◌<◌, ◌≤◌, zero, suc, List, [], ◌∷◌, length, get_or, take, Bool}
 use Rattle.std.proofs.Common.{cond, Option, inl, inr, refl, sym, ap, subst, ◌∙◌, arith, add-one, ◌≢◌, mul-zero}
 use Rattle.std.proofs.Common.{mul-le-mul_left}
-use Rattle.std.specs.Prelude.{◌==◌, nat_lt, None, Some, slice_get, slice_index, sum_by}
+use Rattle.std.specs.Prelude.{◌==◌, nat_lt, None, Some, count_by, slice_get, slice_index, sum_by}
 use Rattle.std.specs.List.{zip}
 use Rattle.std.proofs.Math.Dec.{eqb-suc-suc, eqb-suc-zero, eqb-zero-suc}
 use Rattle.std.proofs.lemmas.Bool.Decides.{eqb_tells, leb_tells}
@@ -109,33 +109,34 @@ free-by_number weight infos (Alloc j s z) held = by_number-none weight infos
 free-by_number weight infos (Free j s z) held = by_number-one weight infos j (record { stack = s; size = z }) held
 free-by_number weight infos (Tick ms) held = by_number-none weight infos
 
+-- the weights of those events of a list that are told by info, by the infos
+sums-by_number :
+    (weight : HeldInfo → ℕ) (is_of : ℕ → Event → Bool) (weigh : Event → ℕ) (infos : List HeldInfo) (events : List Event)
+    → ((e : Event) → IsAmong infos e → by_number weight (λ i. cond {A = ℕ} (is_of i e) 1 0) infos ≡ weigh e)
+    → AreAmong infos events
+    → by_number weight (λ i. count_by (is_of i) events) infos ≡ sum_by weigh events
+sums-by_number weight is_of weigh infos [] each all = by_number-none weight infos
+sums-by_number weight is_of weigh infos (e ∷ es) each all =
+    let rest = sums-by_number weight is_of weigh infos es each (λ k event at. all (suc k) event at) in
+    by_number-same weight (λ i. count_by (is_of i) (e ∷ es))
+    (λ i. cond {A = ℕ} (is_of i e) 1 0 + count_by (is_of i) es) infos
+    (λ i. sum_by-cons (λ (x : Event). cond {A = ℕ} (is_of i x) 1 0) e es)
+    ∙ by_number-add weight (λ i. cond {A = ℕ} (is_of i e) 1 0) (λ i. count_by (is_of i) es) infos
+    ∙ ap (λ (n : ℕ). n + by_number weight (λ i. count_by (is_of i) es) infos) (each e (all 0 e refl))
+    ∙ ap (λ (n : ℕ). weigh e + n) rest
+    ∙ sym (sum_by-cons weigh e es)
+
 -- the weights of a list's allocations, by the infos
 allocs-by_number : (weight : HeldInfo → ℕ) (infos : List HeldInfo) (events : List Event) → AreAmong infos events
     → by_number weight (λ i. allocs_of i events) infos ≡ sum_by (alloc_weight weight) events
-allocs-by_number weight infos [] all = by_number-none weight infos
-allocs-by_number weight infos (e ∷ es) all =
-    let here = alloc-by_number weight infos e (all 0 e refl) in
-    let rest = allocs-by_number weight infos es (λ k event at. all (suc k) event at) in
-    by_number-same weight (λ i. allocs_of i (e ∷ es)) (λ i. cond {A = ℕ} (is_alloc_of i e) 1 0 + allocs_of i es) infos
-    (λ i. sum_by-cons (λ (x : Event). cond {A = ℕ} (is_alloc_of i x) 1 0) e es)
-    ∙ by_number-add weight (λ i. cond {A = ℕ} (is_alloc_of i e) 1 0) (λ i. allocs_of i es) infos
-    ∙ ap (λ (n : ℕ). n + by_number weight (λ i. allocs_of i es) infos) here
-    ∙ ap (λ (n : ℕ). alloc_weight weight e + n) rest
-    ∙ sym (sum_by-cons (alloc_weight weight) e es)
+allocs-by_number weight infos events =
+    sums-by_number weight is_alloc_of (alloc_weight weight) infos events (alloc-by_number weight infos)
 
 -- and of its frees
 frees-by_number : (weight : HeldInfo → ℕ) (infos : List HeldInfo) (events : List Event) → AreAmong infos events
     → by_number weight (λ i. frees_of i events) infos ≡ sum_by (free_weight weight) events
-frees-by_number weight infos [] all = by_number-none weight infos
-frees-by_number weight infos (e ∷ es) all =
-    let here = free-by_number weight infos e (all 0 e refl) in
-    let rest = frees-by_number weight infos es (λ k event at. all (suc k) event at) in
-    by_number-same weight (λ i. frees_of i (e ∷ es)) (λ i. cond {A = ℕ} (is_free_of i e) 1 0 + frees_of i es) infos
-    (λ i. sum_by-cons (λ (x : Event). cond {A = ℕ} (is_free_of i x) 1 0) e es)
-    ∙ by_number-add weight (λ i. cond {A = ℕ} (is_free_of i e) 1 0) (λ i. frees_of i es) infos
-    ∙ ap (λ (n : ℕ). n + by_number weight (λ i. frees_of i es) infos) here
-    ∙ ap (λ (n : ℕ). free_weight weight e + n) rest
-    ∙ sym (sum_by-cons (free_weight weight) e es)
+frees-by_number weight infos events =
+    sums-by_number weight is_free_of (free_weight weight) infos events (free-by_number weight infos)
 
 -- a ledger's sums by its infos
 pub weighed-calls : (state : LedgerState) (events : List Event) (weight : HeldInfo → ℕ) → StandsFor state events
@@ -233,9 +234,8 @@ pub possible-weights : (events : List Event) (weight : HeldInfo → ℕ) → Are
 possible-weights events weight possible =
     let infos : List HeldInfo = possible.among.0 in
     let all : AreAmong infos events = possible.among.1 in
-    let whole : take (length events) events ≡ events = take_all (length events) events (omega arith) in
     let within : (i : ℕ) → frees_of i events ≤ allocs_of i events =
-    λ i. subst (λ (es : List Event). frees_of i es ≤ allocs_of i es) whole
+    λ i. subst (λ (es : List Event). frees_of i es ≤ allocs_of i es) (take_all (length events) events (omega arith))
     (frees-within events i possible.no_fault (length events) (omega arith)) in
     omega (
       arith,
@@ -274,42 +274,20 @@ free_blocks-is n (Tick ms) = refl
 -- a list that a trace can have is balanced in each stack
 pub possible-balanced : (events : List Event) (n : ℕ) → ArePossible events → AreBalanced n events
 possible-balanced events n possible =
-    let infos : List HeldInfo = possible.among.0 in
-    let all : AreAmong infos events = possible.among.1 in
-    let whole : take (length events) events ≡ events = take_all (length events) events (omega arith) in
-    let within : (i : ℕ) → frees_of i events ≤ allocs_of i events =
-    λ i. subst (λ (es : List Event). frees_of i es ≤ allocs_of i es) whole
-    (frees-within events i possible.no_fault (length events) (omega arith)) in
-    let freed : freed_in n events ≡ by_number (bytes_weight n) (λ i. frees_of i events) infos =
-    sum-same (free_size_in n) (free_weight (bytes_weight n)) events (free_bytes-is n)
-    ∙ sym (frees-by_number (bytes_weight n) infos events all) in
-    let allocated : allocated_in n events ≡ by_number (bytes_weight n) (λ i. allocs_of i events) infos =
-    sum-same (alloc_size_in n) (alloc_weight (bytes_weight n)) events (alloc_bytes-is n)
-    ∙ sym (allocs-by_number (bytes_weight n) infos events all) in
-    let frees : frees_in n events ≡ by_number (blocks_weight n) (λ i. frees_of i events) infos =
+    let freed : freed_in n events ≡ sum_by (free_weight (bytes_weight n)) events =
+    sum-same (free_size_in n) (free_weight (bytes_weight n)) events (free_bytes-is n) in
+    let allocated : allocated_in n events ≡ sum_by (alloc_weight (bytes_weight n)) events =
+    sum-same (alloc_size_in n) (alloc_weight (bytes_weight n)) events (alloc_bytes-is n) in
+    let frees : frees_in n events ≡ sum_by (free_weight (blocks_weight n)) events =
     sum-same (λ (e : Event). cond {A = ℕ} (is_free_in n e) 1 0) (free_weight (blocks_weight n)) events
-    (free_blocks-is n)
-    ∙ sym (frees-by_number (blocks_weight n) infos events all) in
-    let calls : calls_in n events ≡ by_number (blocks_weight n) (λ i. allocs_of i events) infos =
+    (free_blocks-is n) in
+    let calls : calls_in n events ≡ sum_by (alloc_weight (blocks_weight n)) events =
     sum-same (λ (e : Event). cond {A = ℕ} (is_alloc_in n e) 1 0) (alloc_weight (blocks_weight n)) events
-    (alloc_blocks-is n)
-    ∙ sym (allocs-by_number (blocks_weight n) infos events all) in
+    (alloc_blocks-is n) in
     record {
-      bytes =
-          omega (
-            arith,
-            by_number-le (bytes_weight n) (λ i. frees_of i events) (λ i. allocs_of i events) infos within,
-            freed,
-            allocated,
-          );
-      blocks =
-          omega (
-            arith,
-            by_number-le (blocks_weight n) (λ i. frees_of i events) (λ i. allocs_of i events) infos within,
-            frees,
-            calls,
-          );
+      bytes = omega (arith, possible-weights events (bytes_weight n) possible, freed, allocated);
+      blocks = omega (arith, possible-weights events (blocks_weight n) possible, frees, calls);
       allocated =
-          subst (λ (es : List Event). allocated_bytes es ≤ 2 ^ 62) whole
+          subst (λ (es : List Event). allocated_bytes es ≤ 2 ^ 62) (take_all (length events) events (omega arith))
           (sizes-within events possible.no_fault (length events) (omega arith));
     }

@@ -1,5 +1,5 @@
 -- What a ledger stands for after one more event, stack or info: its totals, and with them each stack.
-use Rattle.std.proofs.Common.{◌≡◌, ◌≢◌, ℕ, ◌+◌, ◌<◌, List, [], ◌∷◌, ◌++◌, Bool, cond, Option, true, false, inl, inr}
+use Rattle.std.proofs.Common.{◌≡◌, ◌≢◌, ℕ, ◌+◌, ◌<◌, List, [], ◌∷◌, ◌++◌, Bool, cond, Option, inl, inr}
 use Rattle.std.proofs.Common.{refl, add-zero, sym, ap, subst, ◌∙◌, arith}
 use Rattle.std.specs.Option.{option_eq}
 use Rattle.std.specs.Prelude.{nat_eq, ◌==◌, Some, None, slice_index}
@@ -20,10 +20,11 @@ use Rattle.live_ledger.specs.InStack.{alloc_size_in, allocated_in, calls_in, fre
 use Rattle.live_ledger.specs.InStack.{is_alloc_in, is_free_in, temporary_in}
 use Rattle.live_ledger.specs.Temporary.{last_allocated, temporary_count}
 use Rattle.live_ledger.specs.Faults.{fault_of, fault_at}
+use Rattle.live_ledger.specs.ForEvents.{GoesOnWith}
 use Rattle.live_ledger.specs.LedgerState.{HeldInfo, IsHeld, LedgerState, figures_at, without_figures}
 use Rattle.live_ledger.specs.Possible.{AreAmong}
 use Rattle.live_ledger.specs.StandsFor.{StandsFor, AreFiguresOf, AreTotalsOf, HasTotals}
-use Rattle.live_ledger.specs.Changes.{AddsBlock, Allocates, Frees, GainsBlock, LosesBlock, TakesBlock, ended_by_free}
+use Rattle.live_ledger.specs.Changes.{AddsBlock, Changes, GainsBlock, LosesBlock, TakesBlock, ended_by_free}
 use Rattle.live_ledger.specs.declared.totals_ledger.InfoEntry.{InfoEntry}
 use Rattle.live_ledger.specs.Consistent.{blocks_of, calls_of, info_of}
 use Rattle.live_ledger.specs.TotalsState.{TotalsState, ledger_of, no_events, with_info, with_stack}
@@ -75,428 +76,256 @@ counted before after info own others other =
           omega arith
     ]
 
--- each info's live blocks after an allocation
-each-alloc :
-    (old new : LedgerState) (events : List Event) (info stack size : ℕ)
-    → AddsBlock old new info size
-    → HasTotals old events
-    → (other : ℕ)
-    → slice_index new.blocks other + frees_of other (events ++ Alloc info stack size ∷ [])
-    ≡ allocs_of other (events ++ Alloc info stack size ∷ [])
-each-alloc old new events info stack size step stands other =
-    let event : Event = Alloc info stack size in
-    let more_allocs : allocs_of other (events ++ event ∷ []) ≡ allocs_of other events + cond (info == other) 1 0 =
-    sum_by_push (λ (e : Event). cond (is_alloc_of other e) 1 0) events event in
-    let more_frees : frees_of other (events ++ event ∷ []) ≡ frees_of other events + 0 =
-    sum_by_push (λ (e : Event). cond (is_free_of other e) 1 0) events event in
-    let was = stands.each_info other in
-    let blocks =
-    counted (slice_index old.blocks) (slice_index new.blocks) info step.blocks_of_info step.blocks_of_others other in
+-- each info's live blocks after one more event
+each-more :
+    (old new info : ℕ) (events : List Event) (event : Event)
+    → old + frees_of info events ≡ allocs_of info events
+    → new + cond (is_free_of info event) 1 0 ≡ old + cond (is_alloc_of info event) 1 0
+    → new + frees_of info (events ++ event ∷ []) ≡ allocs_of info (events ++ event ∷ [])
+each-more old new info events event was step =
+    let allocs : allocs_of info (events ++ event ∷ []) ≡ allocs_of info events + cond {A = ℕ} (is_alloc_of info event) 1 0 =
+    sum_by_push (λ (e : Event). cond (is_alloc_of info e) 1 0) events event in
+    let frees : frees_of info (events ++ event ∷ []) ≡ frees_of info events + cond {A = ℕ} (is_free_of info event) 1 0 =
+    sum_by_push (λ (e : Event). cond (is_free_of info e) 1 0) events event in
     omega arith
 
--- each info's live blocks after a free
-each-free :
-    (old new : LedgerState) (events : List Event) (info stack size : ℕ)
-    → TakesBlock old new info size
-    → HasTotals old events
-    → (other : ℕ)
-    → slice_index new.blocks other + frees_of other (events ++ Free info stack size ∷ [])
-    ≡ allocs_of other (events ++ Free info stack size ∷ [])
-each-free old new events info stack size step stands other =
-    let event : Event = Free info stack size in
-    let more_allocs : allocs_of other (events ++ event ∷ []) ≡ allocs_of other events + 0 =
-    sum_by_push (λ (e : Event). cond (is_alloc_of other e) 1 0) events event in
-    let more_frees : frees_of other (events ++ event ∷ []) ≡ frees_of other events + cond (info == other) 1 0 =
-    sum_by_push (λ (e : Event). cond (is_free_of other e) 1 0) events event in
-    let was = stands.each_info other in
-    let blocks =
-    counted (slice_index new.blocks) (slice_index old.blocks) info (sym step.blocks_of_info)
-    (λ n apart. sym (step.blocks_of_others n apart)) other in
-    omega arith
+-- and its allocations
+each_calls-more :
+    (old new info : ℕ) (events : List Event) (event : Event)
+    → old ≡ allocs_of info events
+    → new ≡ old + cond (is_alloc_of info event) 1 0
+    → new ≡ allocs_of info (events ++ event ∷ [])
+each_calls-more old new info events event was step =
+    step ∙ ap (λ (n : ℕ). n + cond (is_alloc_of info event) 1 0) was
+    ∙ sym (sum_by_push (λ (e : Event). cond (is_alloc_of info e) 1 0) events event)
 
--- each info's allocations after an allocation
-each_calls-alloc :
-    (old new : LedgerState) (events : List Event) (info stack size : ℕ)
-    → AddsBlock old new info size
-    → HasTotals old events
-    → (other : ℕ)
-    → slice_index new.info_calls other ≡ allocs_of other (events ++ Alloc info stack size ∷ [])
-each_calls-alloc old new events info stack size step stands other =
-    let event : Event = Alloc info stack size in
-    let more : allocs_of other (events ++ event ∷ []) ≡ allocs_of other events + cond (info == other) 1 0 =
-    sum_by_push (λ (e : Event). cond (is_alloc_of other e) 1 0) events event in
-    let was = stands.each_info_calls other in
-    let calls =
-    counted (slice_index old.info_calls) (slice_index new.info_calls) info step.calls_of_info step.calls_of_others
-    other in
-    omega arith
-
--- each info's allocations after a free
-each_calls-free :
-    (old new : LedgerState) (events : List Event) (info stack size : ℕ)
-    → TakesBlock old new info size
-    → HasTotals old events
-    → (other : ℕ)
-    → slice_index new.info_calls other ≡ allocs_of other (events ++ Free info stack size ∷ [])
-each_calls-free old new events info stack size step stands other =
-    let event : Event = Free info stack size in
-    let more : allocs_of other (events ++ event ∷ []) ≡ allocs_of other events + 0 =
-    sum_by_push (λ (e : Event). cond (is_alloc_of other e) 1 0) events event in
-    let was = stands.each_info_calls other in
-    let same : slice_index new.info_calls other ≡ slice_index old.info_calls other =
-    ap (λ (xs : List ℕ). slice_index xs other) step.info_calls in
-    omega arith
-
--- what one more event adds to what a list says of a stack
-record Adds (n : ℕ) (events : List Event) (event : Event) (calls frees allocated freed temporary : ℕ) : Type 0 where
-  calls_more : calls_in n (events ++ event ∷ []) ≡ calls_in n events + calls
-  frees_more : frees_in n (events ++ event ∷ []) ≡ frees_in n events + frees
-  allocated_more : allocated_in n (events ++ event ∷ []) ≡ allocated_in n events + allocated
-  freed_more : freed_in n (events ++ event ∷ []) ≡ freed_in n events + freed
-  temporary_more : temporary_in n (events ++ event ∷ []) ≡ temporary_in n events + temporary
-
--- figures that change by so much are those of the list with the event
+-- figures that change as an event says are those of the list with the event
 figures-more :
-    (old new : Figures) (n : ℕ) (events : List Event) (event : Event) (calls frees allocated freed temporary : ℕ)
+    (old new : Figures) (n : ℕ) (events : List Event) (event : Event)
     → AreFiguresOf old n events
-    → Adds n events event calls frees allocated freed temporary
-    → new.live + freed ≡ old.live + allocated
-    → new.blocks + frees ≡ old.blocks + calls
-    → new.calls ≡ old.calls + calls
-    → new.temporary ≡ old.temporary + temporary
-    → new.allocated ≡ old.allocated + allocated
+    → new.live + free_size_in n event ≡ old.live + alloc_size_in n event
+    → new.blocks + cond (is_free_in n event) 1 0 ≡ old.blocks + cond (is_alloc_in n event) 1 0
+    → new.calls ≡ old.calls + cond (is_alloc_in n event) 1 0
+    → new.temporary ≡ temporary_in n (events ++ event ∷ [])
+    → new.allocated ≡ old.allocated + alloc_size_in n event
     → AreFiguresOf new n (events ++ event ∷ [])
-figures-more old new n events event calls frees allocated freed temporary were adds live blocks more_calls
-    more_temporary more_allocated =
+figures-more old new n events event were live blocks more_calls temporary more_allocated =
+    let calls_more : calls_in n (events ++ event ∷ []) ≡ calls_in n events + cond {A = ℕ} (is_alloc_in n event) 1 0 =
+    sum_by_push (λ (e : Event). cond (is_alloc_in n e) 1 0) events event in
+    let frees_more : frees_in n (events ++ event ∷ []) ≡ frees_in n events + cond {A = ℕ} (is_free_in n event) 1 0 =
+    sum_by_push (λ (e : Event). cond (is_free_in n e) 1 0) events event in
+    let allocated_more = sum_by_push (alloc_size_in n) events event in
+    let freed_more = sum_by_push (free_size_in n) events event in
     let live_and_freed : new.live + freed_in n (events ++ event ∷ []) ≡ allocated_in n (events ++ event ∷ []) =
-    omega (arith, were.live_and_freed, adds.freed_more, adds.allocated_more, live) in
+    omega (arith, were.live_and_freed, freed_more, allocated_more) in
     let blocks_and_frees : new.blocks + frees_in n (events ++ event ∷ []) ≡ calls_in n (events ++ event ∷ []) =
-    omega (arith, were.blocks_and_frees, adds.frees_more, adds.calls_more, blocks) in
+    omega (arith, were.blocks_and_frees) in
     record {
-      calls_is = omega (arith, were.calls_is, adds.calls_more, more_calls);
-      temporary_is = omega (arith, were.temporary_is, adds.temporary_more, more_temporary);
-      allocated_is = omega (arith, were.allocated_is, adds.allocated_more, more_allocated);
+      calls_is = omega (arith, were.calls_is);
+      temporary_is = temporary;
+      allocated_is = omega (arith, were.allocated_is, allocated_more);
       live_is = omega (arith, live_and_freed);
       blocks_is = omega (arith, blocks_and_frees);
       live_and_freed = live_and_freed;
       blocks_and_frees = blocks_and_frees;
     }
 
--- an allocation adds to its stack
-adds-alloc : (n : ℕ) (events : List Event) (info stack size : ℕ) → (stack == n) ≡ true
-    → Adds n events (Alloc info stack size) 1 0 size 0 0
-adds-alloc n events info stack size is =
-    let event : Event = Alloc info stack size in
-    record {
-      calls_more =
-          sum_by_push (λ (e : Event). cond (is_alloc_in n e) 1 0) events event
-          ∙ ap (λ (b : Bool). calls_in n events + cond {A = ℕ} b 1 0) is;
-      frees_more = sum_by_push (λ (e : Event). cond (is_free_in n e) 1 0) events event;
-      allocated_more =
-          sum_by_push (alloc_size_in n) events event
-          ∙ ap (λ (b : Bool). allocated_in n events + cond {A = ℕ} b size 0) is;
-      freed_more = sum_by_push (free_size_in n) events event;
-      temporary_more = temporary_in-alloc n events info stack size ∙ sym (add-zero (temporary_in n events));
-    }
+-- figures to which the event adds nothing are those of the list with it
+figures-stay :
+    (old new : Figures) (n : ℕ) (events : List Event) (event : Event)
+    → AreFiguresOf old n events
+    → new ≡ old
+    → cond {A = ℕ} (is_alloc_in n event) 1 0 ≡ 0
+    → cond {A = ℕ} (is_free_in n event) 1 0 ≡ 0
+    → alloc_size_in n event ≡ 0
+    → free_size_in n event ≡ 0
+    → temporary_in n (events ++ event ∷ []) ≡ temporary_in n events
+    → AreFiguresOf new n (events ++ event ∷ [])
+figures-stay old new n events event were same calls frees allocated freed temporary =
+    subst (λ (f : Figures). AreFiguresOf f n (events ++ event ∷ [])) (sym same)
+    (figures-more old old n events event were (omega arith) (omega arith) (omega arith)
+    (were.temporary_is ∙ sym temporary) (omega arith))
 
--- and nothing to another
-adds-alloc_other : (n : ℕ) (events : List Event) (info stack size : ℕ) → (stack == n) ≡ false
-    → Adds n events (Alloc info stack size) 0 0 0 0 0
-adds-alloc_other n events info stack size is =
-    let event : Event = Alloc info stack size in
-    record {
-      calls_more =
-          sum_by_push (λ (e : Event). cond (is_alloc_in n e) 1 0) events event
-          ∙ ap (λ (b : Bool). calls_in n events + cond {A = ℕ} b 1 0) is;
-      frees_more = sum_by_push (λ (e : Event). cond (is_free_in n e) 1 0) events event;
-      allocated_more =
-          sum_by_push (alloc_size_in n) events event
-          ∙ ap (λ (b : Bool). allocated_in n events + cond {A = ℕ} b size 0) is;
-      freed_more = sum_by_push (free_size_in n) events event;
-      temporary_more = temporary_in-alloc n events info stack size ∙ sym (add-zero (temporary_in n events));
-    }
-
--- a free adds to the frees of its stack
-adds-free : (n : ℕ) (events : List Event) (info stack size : ℕ) → (stack == n) ≡ true
-    → Adds n events (Free info stack size) 0 1 0 size (cond (option_eq nat_eq (last_allocated events) (Some info)) 1 0)
-adds-free n events info stack size is =
-    let event : Event = Free info stack size in
-    record {
-      calls_more = sum_by_push (λ (e : Event). cond (is_alloc_in n e) 1 0) events event;
-      frees_more =
-          sum_by_push (λ (e : Event). cond (is_free_in n e) 1 0) events event
-          ∙ ap (λ (b : Bool). frees_in n events + cond {A = ℕ} b 1 0) is;
-      allocated_more = sum_by_push (alloc_size_in n) events event;
-      freed_more =
-          sum_by_push (free_size_in n) events event ∙ ap (λ (b : Bool). freed_in n events + cond {A = ℕ} b size 0) is;
-      temporary_more = temporary_in-free n events info stack size is;
-    }
-
--- and nothing to another's
-adds-free_other : (n : ℕ) (events : List Event) (info stack size : ℕ) → (stack == n) ≡ false
-    → Adds n events (Free info stack size) 0 0 0 0 0
-adds-free_other n events info stack size is =
-    let event : Event = Free info stack size in
-    record {
-      calls_more = sum_by_push (λ (e : Event). cond (is_alloc_in n e) 1 0) events event;
-      frees_more =
-          sum_by_push (λ (e : Event). cond (is_free_in n e) 1 0) events event
-          ∙ ap (λ (b : Bool). frees_in n events + cond {A = ℕ} b 1 0) is;
-      allocated_more = sum_by_push (alloc_size_in n) events event;
-      freed_more =
-          sum_by_push (free_size_in n) events event ∙ ap (λ (b : Bool). freed_in n events + cond {A = ℕ} b size 0) is;
-      temporary_more = temporary_in-free_other n events info stack size is ∙ sym (add-zero (temporary_in n events));
-    }
-
--- a clock value adds nothing to any
-adds-tick : (n : ℕ) (events : List Event) (ms : ℕ) → Adds n events (Tick ms) 0 0 0 0 0
-adds-tick n events ms =
-    let event : Event = Tick ms in
-    record {
-      calls_more = sum_by_push (λ (e : Event). cond (is_alloc_in n e) 1 0) events event;
-      frees_more = sum_by_push (λ (e : Event). cond (is_free_in n e) 1 0) events event;
-      allocated_more = sum_by_push (alloc_size_in n) events event;
-      freed_more = sum_by_push (free_size_in n) events event;
-      temporary_more = temporary_in-tick n events ms ∙ sym (add-zero (temporary_in n events));
-    }
-
--- figures that nothing is added to stay those of the list
-figures-stay : (figures : Figures) (n : ℕ) (events : List Event) (event : Event) → AreFiguresOf figures n events
-    → Adds n events event 0 0 0 0 0 → AreFiguresOf figures n (events ++ event ∷ [])
-figures-stay figures n events event were adds =
-    figures-more figures figures n events event 0 0 0 0 0 were adds refl refl (sym (add-zero figures.calls))
-    (sym (add-zero figures.temporary)) (sym (add-zero figures.allocated))
-
--- each stack's figures after an allocation
-each_stack-alloc :
-    (old new : LedgerState) (events : List Event) (info stack size : ℕ)
-    → Allocates old new info stack size
+-- each stack's figures after an event
+each_stack-changed :
+    (old new : LedgerState) (events : List Event) (event : Event)
+    → Changes old new event
     → StandsFor old events
     → (n : ℕ)
-    → AreFiguresOf (figures_at new n) n (events ++ Alloc info stack size ∷ [])
-each_stack-alloc old new events info stack size step stands n =
+    → AreFiguresOf (figures_at new n) n (events ++ event ∷ [])
+each_stack-changed old new events (Alloc info stack size) step stands n =
     elim (eqb_tells stack n) [
       | inl same ↦
           let gains : GainsBlock (figures_at old n) (figures_at new n) size =
           subst (λ (m : ℕ). GainsBlock (figures_at old m) (figures_at new m) size) same.1 step.figures in
-          figures-more (figures_at old n) (figures_at new n) n events (Alloc info stack size) 1 0 size 0 0
-          (stands.each_stack n) (adds-alloc n events info stack size same.0)
-          (add-zero _ ∙ gains.live) (add-zero _ ∙ gains.blocks) gains.calls (gains.temporary ∙ sym (add-zero _))
-          gains.allocated
+          let were = stands.each_stack n in
+          figures-more (figures_at old n) (figures_at new n) n events (Alloc info stack size) were
+          (rw same.0 (add-zero _ ∙ gains.live)) (rw same.0 (add-zero _ ∙ gains.blocks)) (rw same.0 gains.calls)
+          (gains.temporary ∙ were.temporary_is ∙ sym (temporary_in-alloc n events info stack size))
+          (rw same.0 gains.allocated)
       | inr apart ↦
-          subst (λ (f : Figures). AreFiguresOf f n (events ++ Alloc info stack size ∷ []))
-          (sym (step.figures_of_others n (λ e. apart.1 (sym e))))
-          (figures-stay (figures_at old n) n events (Alloc info stack size) (stands.each_stack n)
-          (adds-alloc_other n events info stack size apart.0))
+          figures-stay (figures_at old n) (figures_at new n) n events (Alloc info stack size) (stands.each_stack n)
+          (step.figures_of_others n (λ e. apart.1 (sym e))) (rw apart.0 refl) refl (rw apart.0 refl) refl
+          (temporary_in-alloc n events info stack size)
     ]
-
--- each stack's figures after a free
-each_stack-free :
-    (old new : LedgerState) (events : List Event) (info stack size : ℕ)
-    → Frees old new info stack size
-    → StandsFor old events
-    → (n : ℕ)
-    → AreFiguresOf (figures_at new n) n (events ++ Free info stack size ∷ [])
-each_stack-free old new events info stack size step stands n =
+each_stack-changed old new events (Free info stack size) step stands n =
     elim (eqb_tells stack n) [
       | inl same ↦
           let loses : LosesBlock (figures_at old n) (figures_at new n) size (ended_by_free old info) =
           subst (λ (m : ℕ). LosesBlock (figures_at old m) (figures_at new m) size (ended_by_free old info)) same.1
           step.figures in
+          let were = stands.each_stack n in
           let ended : (figures_at new n).temporary
-          ≡ (figures_at old n).temporary + cond (option_eq nat_eq (last_allocated events) (Some info)) 1 0 =
+          ≡ temporary_in n events + cond (option_eq nat_eq (last_allocated events) (Some info)) 1 0 =
           loses.temporary
-          ∙ ap (λ (o : Option ℕ). (figures_at old n).temporary + cond {A = ℕ} (option_eq nat_eq o (Some info)) 1 0)
+          ∙ ap (λ (m : ℕ). m + cond {A = ℕ} (option_eq nat_eq old.last (Some info)) 1 0) were.temporary_is
+          ∙ ap (λ (o : Option ℕ). temporary_in n events + cond {A = ℕ} (option_eq nat_eq o (Some info)) 1 0)
           stands.whole.last_is in
-          figures-more (figures_at old n) (figures_at new n) n events (Free info stack size) 0 1 0 size _
-          (stands.each_stack n) (adds-free n events info stack size same.0)
-          (loses.live ∙ sym (add-zero _)) (loses.blocks ∙ sym (add-zero _)) (loses.calls ∙ sym (add-zero _)) ended
+          figures-more (figures_at old n) (figures_at new n) n events (Free info stack size) were
+          (rw same.0 (loses.live ∙ sym (add-zero _))) (rw same.0 (loses.blocks ∙ sym (add-zero _)))
+          (loses.calls ∙ sym (add-zero _)) (ended ∙ sym (temporary_in-free n events info stack size same.0))
           (loses.allocated ∙ sym (add-zero _))
       | inr apart ↦
-          subst (λ (f : Figures). AreFiguresOf f n (events ++ Free info stack size ∷ []))
-          (sym (step.figures_of_others n (λ e. apart.1 (sym e))))
-          (figures-stay (figures_at old n) n events (Free info stack size) (stands.each_stack n)
-          (adds-free_other n events info stack size apart.0))
+          figures-stay (figures_at old n) (figures_at new n) n events (Free info stack size) (stands.each_stack n)
+          (step.figures_of_others n (λ e. apart.1 (sym e))) refl (rw apart.0 refl) refl (rw apart.0 refl)
+          (temporary_in-free_other n events info stack size apart.0)
     ]
+each_stack-changed old new events (Tick ms) step stands n =
+    figures-stay (figures_at old n) (figures_at new n) n events (Tick ms) (stands.each_stack n)
+    (ap (λ (state : LedgerState). figures_at state n) step) refl refl refl refl (temporary_in-tick n events ms)
 
--- each stack's figures after a clock value
-each_stack-tick : (state : LedgerState) (events : List Event) (ms : ℕ) → StandsFor state events → (n : ℕ)
-    → AreFiguresOf (figures_at state n) n (events ++ Tick ms ∷ [])
-each_stack-tick state events ms stands n =
-    figures-stay (figures_at state n) n events (Tick ms) (stands.each_stack n) (adds-tick n events ms)
+-- what an event changes but for the figures of stacks
+abbrev pub ChangesTotals : LedgerState → LedgerState → Event → Type 0
+ChangesTotals old new (Alloc info stack size) = AddsBlock old new info size
+ChangesTotals old new (Free info stack size) = TakesBlock old new info size
+ChangesTotals old new (Tick ms) = new ≡ old
 
--- a ledger's totals after an allocation are those of the list with that event at its end
-pub totals-alloc :
-    (old new : LedgerState) (events : List Event) (info stack size : ℕ)
-    → IsHeld old (Alloc info stack size)
-    → fault_of events (Alloc info stack size) ≡ None
-    → AddsBlock old new info size
-    → HasTotals old events
-    → HasTotals new (events ++ Alloc info stack size ∷ [])
-totals-alloc old new events info stack size held no_fault step stands =
-    let event : Event = Alloc info stack size in
-    let more : event_count (events ++ event ∷ []) ≡ event_count events + 1 =
-    sum_by_push (λ (e : Event). cond (is_counted e) 1 0) events event in
-    let more_calls : calls (events ++ event ∷ []) ≡ calls events + 1 =
-    sum_by_push (λ (e : Event). cond (is_alloc e) 1 0) events event in
-    let more_frees : frees (events ++ event ∷ []) ≡ frees events + 0 =
-    sum_by_push (λ (e : Event). cond (is_free e) 1 0) events event in
-    let more_bytes : allocated_bytes (events ++ event ∷ []) ≡ allocated_bytes events + size =
-    sum_by_push alloc_size events event in
-    let more_freed : freed_bytes (events ++ event ∷ []) ≡ freed_bytes events + 0 = sum_by_push free_size events event in
-    record {
-      held =
-          subst (λ (infos : List HeldInfo). AreAmong infos (events ++ Alloc info stack size ∷ [])) (sym step.infos)
-          (among-more old.infos events (Alloc info stack size) stands.held held);
-      no_fault = faultless-more events (Alloc info stack size) stands.no_fault no_fault;
-      figures = record {
-        events_is = omega arith;
-        calls_is = omega arith;
-        temporary_is = step.temporary ∙ stands.figures.temporary_is ∙ sym (temporary-alloc events info stack size);
-        allocated_is = omega arith;
-        live_is = omega arith;
-        blocks_is = omega arith;
-        live_and_freed = omega arith;
-        blocks_and_frees = omega arith;
-      };
-      each_info = each-alloc old new events info stack size step stands;
-      each_info_calls = each_calls-alloc old new events info stack size step stands;
-      last_is = step.last ∙ sym (last-alloc events info stack size);
-    }
+-- each figure but those of stacks, after an event, by the one before it
+record Steps (old new : LedgerState) (events : List Event) (event : Event) : Type 0 where
+  infos : new.infos ≡ old.infos
+  counts : new.totals.events ≡ old.totals.events + cond (is_counted event) 1 0
+  calls : new.totals.calls ≡ old.totals.calls + cond (is_alloc event) 1 0
+  temporary : new.totals.temporary ≡ temporary_count (events ++ event ∷ [])
+  allocated : new.totals.allocated ≡ old.totals.allocated + alloc_size event
+  live : new.totals.live + free_size event ≡ old.totals.live + alloc_size event
+  blocks : new.totals.blocks + cond (is_free event) 1 0 ≡ old.totals.blocks + cond (is_alloc event) 1 0
+  each_info : (info : ℕ) → slice_index new.blocks info + cond (is_free_of info event) 1 0
+      ≡ slice_index old.blocks info + cond (is_alloc_of info event) 1 0
+  each_info_calls : (info : ℕ) → slice_index new.info_calls info
+      ≡ slice_index old.info_calls info + cond (is_alloc_of info event) 1 0
+  last : new.last ≡ last_allocated (events ++ event ∷ [])
 
--- a ledger after an allocation stands for the list with that event at its end
-pub stands-alloc :
-    (old new : LedgerState) (events : List Event) (info stack size : ℕ)
-    → IsHeld old (Alloc info stack size)
-    → fault_of events (Alloc info stack size) ≡ None
-    → Allocates old new info stack size
-    → StandsFor old events
-    → StandsFor new (events ++ Alloc info stack size ∷ [])
-stands-alloc old new events info stack size held no_fault step stands = record {
-  whole =
-      totals-alloc (without_figures old) (without_figures new) events info stack size held no_fault step.whole
-      stands.whole;
-  each_stack = each_stack-alloc old new events info stack size step stands;
+steps-of : (old new : LedgerState) (events : List Event) (event : Event) → ChangesTotals old new event
+    → HasTotals old events → Steps old new events event
+steps-of old new events (Alloc info stack size) step stands = record {
+  infos = step.infos;
+  counts = step.events;
+  calls = step.calls;
+  temporary = step.temporary ∙ stands.figures.temporary_is ∙ sym (temporary-alloc events info stack size);
+  allocated = step.allocated;
+  live = add-zero _ ∙ step.live;
+  blocks = add-zero _ ∙ step.blocks;
+  each_info = λ other. add-zero _
+      ∙ counted (slice_index old.blocks) (slice_index new.blocks) info step.blocks_of_info step.blocks_of_others other;
+  each_info_calls =
+      counted (slice_index old.info_calls) (slice_index new.info_calls) info step.calls_of_info step.calls_of_others;
+  last = step.last ∙ sym (last-alloc events info stack size);
 }
+steps-of old new events (Free info stack size) step stands = record {
+  infos = step.infos;
+  counts = step.events;
+  calls = step.calls ∙ sym (add-zero _);
+  temporary =
+      step.temporary
+      ∙ ap (λ (n : ℕ). n + cond (option_eq nat_eq old.last (Some info)) 1 0) stands.figures.temporary_is
+      ∙ ap (λ (o : Option ℕ). temporary_count events + cond (option_eq nat_eq o (Some info)) 1 0) stands.last_is
+      ∙ sym (temporary-free events info stack size);
+  allocated = step.allocated ∙ sym (add-zero _);
+  live = step.live ∙ sym (add-zero _);
+  blocks = step.blocks ∙ sym (add-zero _);
+  each_info = λ other. sym (counted (slice_index new.blocks) (slice_index old.blocks) info (sym step.blocks_of_info)
+      (λ n apart. sym (step.blocks_of_others n apart)) other) ∙ sym (add-zero _);
+  each_info_calls = λ other. ap (λ (xs : List ℕ). slice_index xs other) step.info_calls ∙ sym (add-zero _);
+  last = step.last ∙ sym (last-free events info stack size);
+}
+steps-of old new events (Tick ms) step stands =
+    subst (λ (state : LedgerState). Steps old state events (Tick ms)) (sym step) (record {
+      infos = refl;
+      counts = sym (add-zero _);
+      calls = sym (add-zero _);
+      temporary = stands.figures.temporary_is ∙ sym (temporary-tick events ms);
+      allocated = sym (add-zero _);
+      live = refl;
+      blocks = refl;
+      each_info = λ info. refl;
+      each_info_calls = λ info. sym (add-zero _);
+      last = stands.last_is ∙ sym (last-tick events ms);
+    })
 
--- a ledger's totals after a free are those of the list with that event at its end
-pub totals-free :
-    (old new : LedgerState) (events : List Event) (info stack size : ℕ)
-    → IsHeld old (Free info stack size)
-    → fault_of events (Free info stack size) ≡ None
-    → TakesBlock old new info size
+-- a ledger's totals after an event without a fault are those of the list with it at its end
+pub totals-changed :
+    (old new : LedgerState) (events : List Event) (event : Event)
+    → IsHeld old event
+    → fault_of events event ≡ None
+    → ChangesTotals old new event
     → HasTotals old events
-    → HasTotals new (events ++ Free info stack size ∷ [])
-totals-free old new events info stack size held no_fault step stands =
-    let event : Event = Free info stack size in
-    let more : event_count (events ++ event ∷ []) ≡ event_count events + 1 =
+    → HasTotals new (events ++ event ∷ [])
+totals-changed old new events event held no_fault change stands =
+    let step = steps-of old new events event change stands in
+    let more : event_count (events ++ event ∷ []) ≡ event_count events + cond {A = ℕ} (is_counted event) 1 0 =
     sum_by_push (λ (e : Event). cond (is_counted e) 1 0) events event in
-    let more_calls : calls (events ++ event ∷ []) ≡ calls events + 0 =
+    let more_calls : calls (events ++ event ∷ []) ≡ calls events + cond {A = ℕ} (is_alloc event) 1 0 =
     sum_by_push (λ (e : Event). cond (is_alloc e) 1 0) events event in
-    let more_frees : frees (events ++ event ∷ []) ≡ frees events + 1 =
+    let more_frees : frees (events ++ event ∷ []) ≡ frees events + cond {A = ℕ} (is_free event) 1 0 =
     sum_by_push (λ (e : Event). cond (is_free e) 1 0) events event in
-    let more_bytes : allocated_bytes (events ++ event ∷ []) ≡ allocated_bytes events + 0 =
+    let more_bytes : allocated_bytes (events ++ event ∷ []) ≡ allocated_bytes events + alloc_size event =
     sum_by_push alloc_size events event in
-    let more_freed : freed_bytes (events ++ event ∷ []) ≡ freed_bytes events + size =
+    let more_freed : freed_bytes (events ++ event ∷ []) ≡ freed_bytes events + free_size event =
     sum_by_push free_size events event in
     record {
       held =
-          subst (λ (infos : List HeldInfo). AreAmong infos (events ++ Free info stack size ∷ [])) (sym step.infos)
-          (among-more old.infos events (Free info stack size) stands.held held);
-      no_fault = faultless-more events (Free info stack size) stands.no_fault no_fault;
+          subst (λ (infos : List HeldInfo). AreAmong infos (events ++ event ∷ [])) (sym step.infos)
+          (among-more old.infos events event stands.held held);
+      no_fault = faultless-more events event stands.no_fault no_fault;
       figures = record {
         events_is = omega arith;
         calls_is = omega arith;
-        temporary_is =
-            step.temporary
-            ∙ ap (λ (n : ℕ). n + cond (option_eq nat_eq old.last (Some info)) 1 0) stands.figures.temporary_is
-            ∙ ap (λ (o : Option ℕ). temporary_count events + cond (option_eq nat_eq o (Some info)) 1 0) stands.last_is
-            ∙ sym (temporary-free events info stack size);
+        temporary_is = step.temporary;
         allocated_is = omega arith;
         live_is = omega arith;
         blocks_is = omega arith;
         live_and_freed = omega arith;
         blocks_and_frees = omega arith;
       };
-      each_info = each-free old new events info stack size step stands;
-      each_info_calls = each_calls-free old new events info stack size step stands;
-      last_is = step.last ∙ sym (last-free events info stack size);
-    }
-
--- a ledger after a free stands for the list with that event at its end
-pub stands-free :
-    (old new : LedgerState) (events : List Event) (info stack size : ℕ)
-    → IsHeld old (Free info stack size)
-    → fault_of events (Free info stack size) ≡ None
-    → Frees old new info stack size
-    → StandsFor old events
-    → StandsFor new (events ++ Free info stack size ∷ [])
-stands-free old new events info stack size held no_fault step stands = record {
-  whole =
-      totals-free (without_figures old) (without_figures new) events info stack size held no_fault step.whole
-      stands.whole;
-  each_stack = each_stack-free old new events info stack size step stands;
-}
-
--- each info's live blocks after a clock value
-each-tick :
-    (state : LedgerState) (events : List Event) (ms : ℕ)
-    → HasTotals state events
-    → (other : ℕ)
-    → slice_index state.blocks other + frees_of other (events ++ Tick ms ∷ [])
-    ≡ allocs_of other (events ++ Tick ms ∷ [])
-each-tick state events ms stands other =
-    let event : Event = Tick ms in
-    let more_allocs : allocs_of other (events ++ event ∷ []) ≡ allocs_of other events + 0 =
-    sum_by_push (λ (e : Event). cond (is_alloc_of other e) 1 0) events event in
-    let more_frees : frees_of other (events ++ event ∷ []) ≡ frees_of other events + 0 =
-    sum_by_push (λ (e : Event). cond (is_free_of other e) 1 0) events event in
-    let was = stands.each_info other in
-    omega arith
-
--- a ledger's totals are those of its list with a clock value at the end
-pub totals-tick : (state : LedgerState) (events : List Event) (ms : ℕ) → HasTotals state events
-    → HasTotals state (events ++ Tick ms ∷ [])
-totals-tick state events ms stands =
-    let event : Event = Tick ms in
-    let more : event_count (events ++ event ∷ []) ≡ event_count events + 0 =
-    sum_by_push (λ (e : Event). cond (is_counted e) 1 0) events event in
-    let more_calls : calls (events ++ event ∷ []) ≡ calls events + 0 =
-    sum_by_push (λ (e : Event). cond (is_alloc e) 1 0) events event in
-    let more_frees : frees (events ++ event ∷ []) ≡ frees events + 0 =
-    sum_by_push (λ (e : Event). cond (is_free e) 1 0) events event in
-    let more_bytes : allocated_bytes (events ++ event ∷ []) ≡ allocated_bytes events + 0 =
-    sum_by_push alloc_size events event in
-    let more_freed : freed_bytes (events ++ event ∷ []) ≡ freed_bytes events + 0 = sum_by_push free_size events event in
-    record {
-      held = among-more state.infos events event stands.held tt;
-      no_fault = faultless-more events event stands.no_fault refl;
-      figures = record {
-        events_is = omega arith;
-        calls_is = omega arith;
-        temporary_is = stands.figures.temporary_is ∙ sym (temporary-tick events ms);
-        allocated_is = omega arith;
-        live_is = omega arith;
-        blocks_is = omega arith;
-        live_and_freed = omega arith;
-        blocks_and_frees = omega arith;
-      };
-      each_info = each-tick state events ms stands;
+      each_info = λ info. each-more _ _ info events event (stands.each_info info) (step.each_info info);
       each_info_calls =
-          λ info. (let more : allocs_of info (events ++ event ∷ [])
-          ≡ allocs_of info events + 0 =
-          sum_by_push (λ (e : Event). cond (is_alloc_of info e) 1 0) events event in let was =
-          stands.each_info_calls info in omega arith);
-      last_is = stands.last_is ∙ sym (last-tick events ms);
+          λ info. each_calls-more _ _ info events event (stands.each_info_calls info) (step.each_info_calls info);
+      last_is = step.last;
     }
 
--- a ledger stands for its list with a clock value at the end
-pub stands-tick : (state : LedgerState) (events : List Event) (ms : ℕ) → StandsFor state events
-    → StandsFor state (events ++ Tick ms ∷ [])
-stands-tick state events ms stands =
+-- what an event changes in a ledger, it changes in its totals
+whole-changes : (old new : LedgerState) (event : Event) → Changes old new event
+    → ChangesTotals (without_figures old) (without_figures new) event
+whole-changes old new (Alloc info stack size) change = change.whole
+whole-changes old new (Free info stack size) change = change.whole
+whole-changes old new (Tick ms) change = ap (λ (state : LedgerState). without_figures state) change
+
+-- a fault by a ledger's figures is one by its totals
+fault_at-whole : (state : LedgerState) (event : Event) → fault_at (without_figures state) event ≡ fault_at state event
+fault_at-whole state (Alloc info stack size) = refl
+fault_at-whole state (Free info stack size) = refl
+fault_at-whole state (Tick ms) = refl
+
+-- a ledger after an event without a fault stands for the list with it at its end
+pub stands-changed : (old new : LedgerState) (event : Event) → IsHeld old event → fault_at old event ≡ None
+    → Changes old new event → GoesOnWith event (StandsFor old) (StandsFor new)
+stands-changed old new event held none change = λ events stands.
+    let no_fault = sym (fault_at-is (without_figures old) events event stands.whole) ∙ fault_at-whole old event ∙ none in
     record {
-      whole = totals-tick (without_figures state) events ms stands.whole;
-      each_stack = each_stack-tick state events ms stands;
+      whole =
+          totals-changed (without_figures old) (without_figures new) events event held no_fault
+          (whole-changes old new event change) stands.whole;
+      each_stack = each_stack-changed old new events event change stands;
     }
 
 -- a ledger's totals are told by its figures, those of each info, and the last event; more infos may be held

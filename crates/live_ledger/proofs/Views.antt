@@ -25,11 +25,12 @@ use Rattle.live_ledger.specs.Faults.{fault_at}
 use Rattle.live_ledger.specs.Sound.{AreSums, AreWithin, IsSound}
 use Rattle.live_ledger.specs.Sums.{IsPaired, figures_of, no_sums, totals_of, with_alloc, with_free}
 use Rattle.live_ledger.proofs.Balances.{balance-paired}
+use Rattle.live_ledger.proofs.Consistency.{FreeFits, alloc-fits, consistent-alloc, consistent-free, entry-live}
 use Rattle.live_ledger.proofs.Consistency.{free-fits_own, free-fits_whole}
 use Rattle.live_ledger.specs.TotalsState.{IsKept, TotalsState, entry_at, ledger_of, one_fewer, one_more, state_of}
 use Rattle.live_ledger.specs.TotalsState.{with_block, without_block}
-use Rattle.live_ledger.proofs.Entries.{IsEntry, IsOwn, entry-held, number-at, number-at_others, number-at_set, own-at}
-use Rattle.live_ledger.proofs.Entries.{own-others, own-push, own-written}
+use Rattle.live_ledger.proofs.Entries.{IsEntry, IsOwn, entry-held, entry-within, number-at, number-at_others}
+use Rattle.live_ledger.proofs.Entries.{number-at_set, own-at, own-others, own-push, own-written}
 
 -- the state of a ledger of totals by its parts
 abbrev pub whole_of : ℕ → List InfoEntry → Sums → Option ℕ → TotalsState
@@ -335,13 +336,80 @@ fields-free stacks whole i stack size own old e o live =
           apart;
     }
 
+-- the stack of an info that is held has its place among the sums
+pub stack-within :
+    (stacks : List Sums) (whole : TotalsState) (i : ℕ) (held : HeldInfo)
+    → AreConsistent whole.stacks stacks whole.infos whole.sums
+    → slice_get (map info_of whole.infos) i ≡ Some held
+    → held.stack < length stacks
+stack-within stacks whole i held old is = omega (arith, stack-held whole i held old.kept is, old.count_is)
+
+-- a block of an info that is held is allocated: what fits, and what holds after it
+pub record Allocating (stacks : List Sums) (whole : TotalsState) (i stack size : ℕ) (own : Sums) : Type 0 where
+  pub fits :
+      whole.sums.allocated + size ≤ 2 ^ 62
+      → whole.sums.calls + whole.sums.frees < 2 ^ 32
+      → (own.calls < 2 ^ 32) × (own.allocated + size ≤ 2 ^ 62)
+  pub consistent :
+      IsKept (with_block whole i size)
+      → AreConsistent whole.stacks (set stacks stack (with_alloc own size)) (with_block whole i size).infos
+      (with_block whole i size).sums
+  pub changes :
+      Allocates (state_of stacks whole) (state_of (set stacks stack (with_alloc own size)) (with_block whole i size)) i
+      stack size
+
+pub allocating :
+    (stacks : List Sums) (whole : TotalsState) (i stack size : ℕ) (own : Sums)
+    → AreConsistent whole.stacks stacks whole.infos whole.sums
+    → slice_get (map info_of whole.infos) i ≡ Some (record { stack = stack; size = size })
+    → own ≡ get_or stacks stack own
+    → Allocating stacks whole i stack size own
+allocating stacks whole i stack size own old held read =
+    let o : IsOwn stacks stack own = record { within = stack-within stacks whole i _ old held; is = read } in
+    let entry = entry-held whole i stack size held in
+    record {
+      fits = alloc-fits _ _ _ _ _ _ _ old o;
+      consistent = λ kept. consistent-alloc _ _ _ _ _ _ _ _ _ old kept entry o;
+      changes = fields-alloc _ _ _ _ _ _ old entry o;
+    }
+
+-- a live block of an info that is held is freed: what fits, and what holds after it
+pub record Freeing (stacks : List Sums) (whole : TotalsState) (i stack size : ℕ) (own : Sums) : Type 0 where
+  pub fits : FreeFits own size (ended_by_free (ledger_of whole) i)
+  pub consistent :
+      IsKept (without_block whole i size)
+      → AreConsistent whole.stacks (set stacks stack (with_free own size (ended_by_free (ledger_of whole) i)))
+      (without_block whole i size).infos (without_block whole i size).sums
+  pub changes :
+      Frees (state_of stacks whole)
+      (state_of (set stacks stack (with_free own size (ended_by_free (ledger_of whole) i))) (without_block whole i size))
+      i stack size
+
+pub freeing :
+    (stacks : List Sums) (whole : TotalsState) (i stack size : ℕ) (own : Sums)
+    → AreConsistent whole.stacks stacks whole.infos whole.sums
+    → slice_get (map info_of whole.infos) i ≡ Some (record { stack = stack; size = size })
+    → 0 < slice_index (map blocks_of whole.infos) i
+    → own ≡ get_or stacks stack own
+    → Freeing stacks whole i stack size own
+freeing stacks whole i stack size own old held some read =
+    let o : IsOwn stacks stack own = record { within = stack-within stacks whole i _ old held; is = read } in
+    let entry = entry-held whole i stack size held in
+    let live = entry-live _ _ _ _ _ entry some in
+    record {
+      fits = free-fits_own _ _ _ _ _ _ _ _ _ _ old entry o live (ended-few whole i);
+      consistent = λ kept. consistent-free _ _ _ _ _ _ _ _ _ _ old kept entry o live (ended-few whole i);
+      changes = fields-free _ _ _ _ _ _ old entry o live;
+    }
+
 -- a free of an info by its entry: a fault exactly where it has no live block
 pub fault-of_entry :
     (whole : TotalsState) (i stack size : ℕ) (entry : InfoEntry)
-    → i < length whole.infos
+    → slice_get (map info_of whole.infos) i ≡ Some (record { stack = stack; size = size })
     → entry ≡ get_or whole.infos i entry
     → fault_at (ledger_of whole) (Free i stack size) ≡ (if entry.blocks == 0 then Some FreeOfNothing else None)
-fault-of_entry whole i stack size entry within is = rw (number-at blocks_of whole.infos i entry within is)
+fault-of_entry whole i stack size entry held is =
+    rw (number-at blocks_of whole.infos i entry (entry-within whole.infos i _ held) is)
 
 -- an allocation that fits has no fault
 pub fits-alloc : (allocated size : ℕ) → allocated ≤ 2 ^ 62 → size ≤ 2 ^ 62 - allocated
