@@ -16,7 +16,7 @@ use Rattle.cost_tree.specs.IsTreeOf.{IsTreeOf}
 use Rattle.cost_tree.specs.NextFronts.{next_fronts}
 use Rattle.cost_tree.specs.TreeState.{TreeState}
 use Rattle.cost_tree.specs.declared.scale.Scale.{Scale}
-use Rattle.cost_tree.specs.Shares.{cost_at, is_kept_at, is_small_at, kept_children, small_children}
+use Rattle.cost_tree.specs.Shares.{cost_at, is_kept_at, kept_children, small_children}
 use Rattle.cost_tree.specs.Order.{by_cost}
 use Rattle.cost_tree.specs.CostLines.{cost_of, is_small, kept_fronts, small_fronts}
 use Rattle.cost_tree.specs.TreeLines.{front_at}
@@ -67,44 +67,44 @@ children-are tree stacks depth n is =
     found.2 found.3)
     children (All-contains_itself children)
 
--- the fronts that are kept are those of the nodes that are, and so with the small ones
-pub kept-are : (tree : TreeState) (stacks : List Costed) (scale : Scale) (n : ℕ)
-    → All (IsChildOf tree stacks n) (children_of tree.nodes n)
-    → map (front_at tree) (children_of tree.nodes n) ≡ next_fronts (front_at tree n) stacks
-    → kept_fronts scale stacks (front_at tree n) ≡ map (front_at tree) (kept_children scale tree n)
-unfolding kept_fronts kept_children
-kept-are tree stacks scale n all next =
-    let children : List ℕ = children_of tree.nodes n in
-    let cost : ℕ → ℕ = λ m. cost_of stacks (front_at tree m) in
-    let kept : List (List ℕ) → Bool = λ front. not (is_small scale (cost_of stacks front)) in
-    let chosen = filter-map kept (front_at tree) children
-    ∙ ap (λ (ms : List ℕ). map (front_at tree) ms)
-    (filter-same (λ m. kept (front_at tree m)) (is_kept_at scale tree) children
-    (All-weaker (IsChildOf tree stacks n) (λ m. kept (front_at tree m) ≡ is_kept_at scale tree m)
-    (λ m child. ap (λ (c : ℕ). not (is_small scale c)) (sym child.cost)) children all)) in
-    let costs : All (λ m. cost m ≡ cost_at tree m) (filter (is_kept_at scale tree) children) =
-    All-filter (is_kept_at scale tree) (λ m. cost m ≡ cost_at tree m) children
-    (All-weaker (IsChildOf tree stacks n) (λ m. cost m ≡ cost_at tree m) (λ m child. sym child.cost) children all) in
-    ap (λ (fronts : List (List (List ℕ))). by_cost (cost_of stacks) (filter kept fronts)) (sym next)
-    ∙ ap (λ (fronts : List (List (List ℕ))). by_cost (cost_of stacks) fronts) chosen
-    ∙ by_cost-map (cost_of stacks) (front_at tree) (filter (is_kept_at scale tree) children)
-    ∙ ap (λ (ms : List ℕ). map (front_at tree) ms)
-    (by_cost-same cost (cost_at tree) (filter (is_kept_at scale tree) children) costs)
+-- of a node whose children have the next fronts
+module _ (tree : TreeState) (stacks : List Costed) (scale : Scale) (n : ℕ)
+    (all : All (IsChildOf tree stacks n) (children_of tree.nodes n))
+    (next : map (front_at tree) (children_of tree.nodes n) ≡ next_fronts (front_at tree n) stacks) where
+  -- the fronts that pass a test of what they cost are those of the nodes that do
+  filtered-are : (test : ℕ → Bool)
+      → filter (λ front. test (cost_of stacks front)) (next_fronts (front_at tree n) stacks)
+      ≡ map (front_at tree) (filter (λ m. test (cost_at tree m)) (children_of tree.nodes n))
+  filtered-are test =
+      let children : List ℕ = children_of tree.nodes n in
+      let passes : List (List ℕ) → Bool = λ front. test (cost_of stacks front) in
+      let passes_at : ℕ → Bool = λ m. test (cost_at tree m) in
+      ap (λ (fronts : List (List (List ℕ))). filter passes fronts) (sym next)
+      ∙ filter-map passes (front_at tree) children
+      ∙ ap (λ (ms : List ℕ). map (front_at tree) ms)
+      (filter-same (λ m. passes (front_at tree m)) passes_at children
+      (All-weaker (IsChildOf tree stacks n) (λ m. passes (front_at tree m) ≡ passes_at m)
+      (λ m child. ap test (sym child.cost)) children all))
 
-pub small-are : (tree : TreeState) (stacks : List Costed) (scale : Scale) (n : ℕ)
-    → All (IsChildOf tree stacks n) (children_of tree.nodes n)
-    → map (front_at tree) (children_of tree.nodes n) ≡ next_fronts (front_at tree n) stacks
-    → small_fronts scale stacks (front_at tree n) ≡ map (front_at tree) (small_children scale tree n)
-unfolding small_fronts small_children
-small-are tree stacks scale n all next =
-    let children : List ℕ = children_of tree.nodes n in
-    let small : List (List ℕ) → Bool = λ front. is_small scale (cost_of stacks front) in
-    ap (λ (fronts : List (List (List ℕ))). filter small fronts) (sym next)
-    ∙ filter-map small (front_at tree) children
-    ∙ ap (λ (ms : List ℕ). map (front_at tree) ms)
-    (filter-same (λ m. small (front_at tree m)) (is_small_at scale tree) children
-    (All-weaker (IsChildOf tree stacks n) (λ m. small (front_at tree m) ≡ is_small_at scale tree m)
-    (λ m child. ap (λ (c : ℕ). is_small scale c) (sym child.cost)) children all))
+  -- so those that are kept
+  pub kept-are : kept_fronts scale stacks (front_at tree n) ≡ map (front_at tree) (kept_children scale tree n)
+  unfolding kept_fronts kept_children
+  kept-are =
+      let children : List ℕ = children_of tree.nodes n in
+      let cost : ℕ → ℕ = λ m. cost_of stacks (front_at tree m) in
+      let costs : All (λ m. cost m ≡ cost_at tree m) (filter (is_kept_at scale tree) children) =
+      All-filter (is_kept_at scale tree) (λ m. cost m ≡ cost_at tree m) children
+      (All-weaker (IsChildOf tree stacks n) (λ m. cost m ≡ cost_at tree m) (λ m child. sym child.cost) children all) in
+      ap (λ (fronts : List (List (List ℕ))). by_cost (cost_of stacks) fronts)
+      (filtered-are (λ c. not (is_small scale c)))
+      ∙ by_cost-map (cost_of stacks) (front_at tree) (filter (is_kept_at scale tree) children)
+      ∙ ap (λ (ms : List ℕ). map (front_at tree) ms)
+      (by_cost-same cost (cost_at tree) (filter (is_kept_at scale tree) children) costs)
+
+  -- and the small ones
+  pub small-are : small_fronts scale stacks (front_at tree n) ≡ map (front_at tree) (small_children scale tree n)
+  unfolding small_fronts small_children
+  small-are = filtered-are (is_small scale)
 
 -- sums of elements that agree
 pub sum-same : {X : Type 0} (f g : X → ℕ) (xs : List X) → All (λ x. f x ≡ g x) xs → sum_by f xs ≡ sum_by g xs

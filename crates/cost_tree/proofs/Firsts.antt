@@ -55,36 +55,38 @@ begins-same front whole cut is same =
           (first ∙ take-take (length front) is.count whole.texts (omega arith))),
     )
 
--- a front costs the same
-pub inclusive-same : (front : List (List ℕ)) (stacks cuts : List Costed) → AreFirst stacks cuts
-    → AreFirstTo (length front) front stacks cuts → inclusive front cuts ≡ inclusive front stacks
-inclusive-same front [] [] are same = refl
-inclusive-same front [] (cut ∷ cuts) are same = absurd are
-inclusive-same front (whole ∷ stacks) [] are same = absurd are
-inclusive-same front (whole ∷ stacks) (cut ∷ cuts) are same =
+-- a front costs the same, and has the same first stack
+figures-same : (front : List (List ℕ)) (stacks cuts : List Costed) → AreFirst stacks cuts
+    → AreFirstTo (length front) front stacks cuts
+    → (inclusive front cuts ≡ inclusive front stacks) × (least front cuts ≡ least front stacks)
+figures-same front [] [] are same = (refl, refl)
+figures-same front [] (cut ∷ cuts) are same = absurd are
+figures-same front (whole ∷ stacks) [] are same = absurd are
+figures-same front (whole ∷ stacks) (cut ∷ cuts) are same =
     let one = inclusive-cons front cut cuts in
     let two = inclusive-cons front whole stacks in
+    let begins = begins-same front whole cut are.0 (same 0) in
     let here : cond {A = ℕ} (has_front front cut.texts) cut.cost 0
     ≡ cond {A = ℕ} (has_front front whole.texts) whole.cost 0 =
-    ap (λ (b : Bool). cond {A = ℕ} b cut.cost 0) (begins-same front whole cut are.0 (same 0))
+    ap (λ (b : Bool). cond {A = ℕ} b cut.cost 0) begins
     ∙ ap (λ (n : ℕ). cond {A = ℕ} (has_front front whole.texts) n 0) are.0.cost in
-    let rest = inclusive-same front stacks cuts are.1 (λ k. same (suc k)) in
-    omega arith
+    let rest = figures-same front stacks cuts are.1 (λ k. same (suc k)) in
+    let rest_cost = rest.0 in (
+      omega arith,
+      least-cons front cut cuts
+          ∙ ap (λ (b : Bool). cond {A = ℕ} (nat_lt 0 cut.cost && b) 0 (1 + least front cuts)) begins
+          ∙ ap (λ (n : ℕ). cond {A = ℕ} (nat_lt 0 n && has_front front whole.texts) 0 (1 + least front cuts)) are.0.cost
+          ∙ ap (λ (n : ℕ). cond {A = ℕ} (nat_lt 0 whole.cost && has_front front whole.texts) 0 (1 + n)) rest.1
+          ∙ sym (least-cons front whole stacks),
+    )
 
--- and has the same first stack
+pub inclusive-same : (front : List (List ℕ)) (stacks cuts : List Costed) → AreFirst stacks cuts
+    → AreFirstTo (length front) front stacks cuts → inclusive front cuts ≡ inclusive front stacks
+inclusive-same front stacks cuts are same = (figures-same front stacks cuts are same).0
+
 pub least-same : (front : List (List ℕ)) (stacks cuts : List Costed) → AreFirst stacks cuts
     → AreFirstTo (length front) front stacks cuts → least front cuts ≡ least front stacks
-least-same front [] [] are same = refl
-least-same front [] (cut ∷ cuts) are same = absurd are
-least-same front (whole ∷ stacks) [] are same = absurd are
-least-same front (whole ∷ stacks) (cut ∷ cuts) are same =
-    least-cons front cut cuts
-    ∙ ap (λ (b : Bool). cond {A = ℕ} (nat_lt 0 cut.cost && b) 0 (1 + least front cuts))
-    (begins-same front whole cut are.0 (same 0))
-    ∙ ap (λ (n : ℕ). cond {A = ℕ} (nat_lt 0 n && has_front front whole.texts) 0 (1 + least front cuts)) are.0.cost
-    ∙ ap (λ (n : ℕ). cond {A = ℕ} (nat_lt 0 whole.cost && has_front front whole.texts) 0 (1 + n))
-    (least-same front stacks cuts are.1 (λ k. same (suc k)))
-    ∙ sym (least-cons front whole stacks)
+least-same front stacks cuts are same = (figures-same front stacks cuts are same).1
 
 count-same : (stacks cuts : List Costed) → AreFirst stacks cuts → length cuts ≡ length stacks
 count-same [] [] are = refl

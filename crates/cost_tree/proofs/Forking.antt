@@ -21,15 +21,20 @@ first-adds : (front list : List (List ℕ)) (lists : List (List (List ℕ)))
 unfolding costed
 first-adds front list lists = inclusive-cons front (record { texts = list; cost = 1 }) (ones lists)
 
+-- so a first one that begins with the front costs 1
+first-has : (front texts list : List (List ℕ)) (lists : List (List (List ℕ)))
+    → slice_get (list ∷ lists) 0 ≡ Some texts → has_front front texts ≡ true
+    → inclusive front (ones (list ∷ lists)) ≡ 1 + inclusive front (ones lists)
+first-has front texts list lists at has =
+    first-adds front list lists
+    ∙ ap (λ (xs : List (List ℕ)). cond {A = ℕ} (has_front front xs) 1 0 + inclusive front (ones lists))
+    (same_Some list texts at)
+    ∙ ap (λ (b : Bool). cond {A = ℕ} b 1 0 + inclusive front (ones lists)) has
+
 one-begins : (front texts : List (List ℕ)) (lists : List (List (List ℕ))) (n : ℕ) → slice_get lists n ≡ Some texts
     → has_front front texts ≡ true → 1 ≤ inclusive front (ones lists)
 one-begins front texts [] n at has = absurd (none-some texts at)
-one-begins front texts (list ∷ lists) zero at has =
-    let adds = first-adds front list lists in
-    let here : cond {A = ℕ} (has_front front list) 1 0 ≡ 1 =
-    ap (λ (xs : List (List ℕ)). cond {A = ℕ} (has_front front xs) 1 0) (same_Some list texts at)
-    ∙ ap (λ (b : Bool). cond {A = ℕ} b 1 0) has in
-    omega arith
+one-begins front texts (list ∷ lists) zero at has = let first = first-has front texts list lists at has in omega arith
 one-begins front texts (list ∷ lists) (suc n) at has =
     let adds = first-adds front list lists in
     let rest = one-begins front texts lists n at has in
@@ -42,17 +47,11 @@ two-begin : (front texts other : List (List ℕ)) (lists : List (List (List ℕ)
 two-begin front texts other [] n k at other_at has other_has apart = absurd (none-some texts at)
 two-begin front texts other (list ∷ lists) zero zero at other_at has other_has apart = absurd (apart refl)
 two-begin front texts other (list ∷ lists) zero (suc k) at other_at has other_has apart =
-    let adds = first-adds front list lists in
-    let here : cond {A = ℕ} (has_front front list) 1 0 ≡ 1 =
-    ap (λ (xs : List (List ℕ)). cond {A = ℕ} (has_front front xs) 1 0) (same_Some list texts at)
-    ∙ ap (λ (b : Bool). cond {A = ℕ} b 1 0) has in
+    let first = first-has front texts list lists at has in
     let rest = one-begins front other lists k other_at other_has in
     omega arith
 two-begin front texts other (list ∷ lists) (suc n) zero at other_at has other_has apart =
-    let adds = first-adds front list lists in
-    let here : cond {A = ℕ} (has_front front list) 1 0 ≡ 1 =
-    ap (λ (xs : List (List ℕ)). cond {A = ℕ} (has_front front xs) 1 0) (same_Some list other other_at)
-    ∙ ap (λ (b : Bool). cond {A = ℕ} b 1 0) other_has in
+    let first = first-has front other list lists other_at other_has in
     let rest = one-begins front texts lists n at has in
     omega arith
 two-begin front texts other (list ∷ lists) (suc n) (suc k) at other_at has other_has apart =

@@ -15,11 +15,11 @@ use Rattle.cost_tree.specs.Costed.{Costed}
 use Rattle.cost_tree.specs.Growth.{AreBranches, IsGrown, counted, ended, ending}
 use Rattle.cost_tree.specs.Inclusive.{has_front, inclusive, is_front, least, own}
 use Rattle.cost_tree.proofs.Lists.{get-push_cases, get-push_old, get-push_new, get-set_cases}
-use Rattle.cost_tree.proofs.Prefixes.{has_front-Decides, has_front-longer, has_front-take, is_front-Decides}
+use Rattle.cost_tree.proofs.Prefixes.{has_front-Decides, has_front-take, is_front-Decides}
 use Rattle.cost_tree.proofs.Prefixes.{is_front-has, same_or_not}
 use Rattle.cost_tree.proofs.Sums.{AddsAt, SameTo, SameTo-end, SameTo-free, inclusive-push, inclusive-shorter}
 use Rattle.cost_tree.proofs.Sums.{least-push_old, least-within, own-free, own-le-inclusive, own-push_other}
-use Rattle.cost_tree.proofs.Sums.{own-push_same, part, part-free, part-has, part-other}
+use Rattle.cost_tree.proofs.Sums.{own-push_same, part, part-empty, part-free, part-has, part-other}
 
 -- what one stack adds to what ends at a front
 end_part : ℕ → List (List ℕ) → Costed → ℕ
@@ -191,22 +191,16 @@ IsGrown-reached names edges nodes fronts before done depth (suc n) at cost are g
       let was = grown.only k front over front_at in
       let old = inclusive-push front before (record { texts = []; cost = cost }) in
       let new = inclusive-push front before (record { texts = at; cost = cost }) in
-      let none = not_empty front (front-other names edges nodes fronts k front are front_at over) in
+      let none = part-empty front cost (front-other names edges nodes fronts k front are front_at over) in
       omega arith;
   order = grown.order;
 }
   where
-    not_empty : (front : List (List ℕ)) → front ≢ [] → part front (record { texts = []; cost = cost }) ≡ 0
-    not_empty [] other = absurd (other refl)
-    not_empty (text ∷ front) other =
-        part-other (text ∷ front) (record { texts = []; cost = cost })
-        (has_front-longer (text ∷ front) [] 0 (omega arith))
-
     here : 0 < inclusive at before
     here =
         let was = grown.only (suc n) at (omega arith) found in
         let old = inclusive-push at before (record { texts = []; cost = cost }) in
-        let none = not_empty at (front-other names edges nodes fronts (suc n) at are found (omega arith)) in
+        let none = part-empty at cost (front-other names edges nodes fronts (suc n) at are found (omega arith)) in
         omega arith
 
     to_old : (front : List (List ℕ)) → 0 < inclusive front before → 0 < inclusive front (with_stack before [] cost)

@@ -152,29 +152,53 @@ abbrev pub no_node : CostNode
 no_node = record { parent = 0; cost = 0; own = 0; first = 0 }
 
 -- a walk over children: the child that it stands at is one of them, and the rest follows
-pub record IsWalk (nodes : List CostNode) (n child : ℕ) : Type 0 where
+pub record IsWalk (nodes : List CostNode) (firsts nexts : List ℕ) (n child : ℕ) : Type 0 where
+  pub links : AreLinksFrom nodes firsts nexts 1
   pub within : child < length nodes
   pub parent : (node : CostNode) → child ≢ 0 → slice_get nodes child ≡ Some node → node.parent ≡ n
 
 pub IsWalk-first : (nodes : List CostNode) (firsts nexts : List ℕ) (n : ℕ) → AreLinksFrom nodes firsts nexts 1
     → n < length nodes
-    → IsWalk nodes n (slice_index firsts n) × (children_of nodes n ≡ chain nodes n (slice_index firsts n))
+    → IsWalk nodes firsts nexts n (slice_index firsts n)
+    × (children_of nodes n ≡ chain nodes n (slice_index firsts n))
 IsWalk-first nodes firsts nexts n links within =
-    let link = links.first n within in (record { within = link.within; parent = link.parent }, link.rest)
+    let link = links.first n within in (
+      record { links = links; within = link.within; parent = link.parent },
+      link.rest,
+    )
 
-pub IsWalk-next : (nodes : List CostNode) (firsts nexts : List ℕ) (n child : ℕ) → AreLinksFrom nodes firsts nexts 1
-    → IsWalk nodes n child → child ≢ 0
-    → IsWalk nodes n (slice_index nexts child) × (chain nodes n child ≡ child ∷ chain nodes n (slice_index nexts child))
-IsWalk-next nodes firsts nexts n child links walk some =
+IsWalk-next : (nodes : List CostNode) (firsts nexts : List ℕ) (n child : ℕ) → IsWalk nodes firsts nexts n child
+    → child ≢ 0
+    → IsWalk nodes firsts nexts n (slice_index nexts child)
+    × (chain nodes n child ≡ child ∷ chain nodes n (slice_index nexts child))
+IsWalk-next nodes firsts nexts n child walk some =
     let at = slice_get-get_or nodes child no_node walk.within in
     let node : CostNode = get_or nodes child no_node in
-    let link = links.next child node (omega arith) at in
+    let link = walk.links.next child node (omega arith) at in
     let parent = walk.parent node some at in
     let P : ℕ → Type 0 = λ k. IsLink nodes k (child + 1) (slice_index nexts child) in
     let here = subst P parent link in (
-      record { within = here.within; parent = here.parent },
+      record { links = walk.links; within = here.within; parent = here.parent },
       chain-some nodes n child some ∙ ap (λ (xs : List ℕ). child ∷ xs) here.rest,
     )
+
+-- the next child as it is read
+pub IsWalk-read : {nodes : List CostNode} {firsts nexts : List ℕ} {n child next : ℕ}
+    → IsWalk nodes firsts nexts n child → child ≢ 0 → next ≡ slice_index nexts child → IsWalk nodes firsts nexts n next
+IsWalk-read {nodes} {firsts} {nexts} {n} {child} walk some read =
+    subst (λ (k : ℕ). IsWalk nodes firsts nexts n k) (sym read) (IsWalk-next nodes firsts nexts n child walk some).0
+
+pub chain-read : {nodes : List CostNode} {firsts nexts : List ℕ} {n child next : ℕ}
+    → IsWalk nodes firsts nexts n child → child ≢ 0 → next ≡ slice_index nexts child
+    → chain nodes n child ≡ child ∷ chain nodes n next
+chain-read {nodes} {firsts} {nexts} {n} {child} walk some read =
+    (IsWalk-next nodes firsts nexts n child walk some).1 ∙ ap (λ (k : ℕ). child ∷ chain nodes n k) (sym read)
+
+pub chain-count : {nodes : List CostNode} {firsts nexts : List ℕ} {n child next : ℕ}
+    → IsWalk nodes firsts nexts n child → child ≢ 0 → next ≡ slice_index nexts child
+    → length (chain nodes n child) ≡ length (chain nodes n next) + 1
+chain-count walk some read =
+    let longer = ap (λ (xs : List ℕ). length xs) (chain-read walk some read) in omega arith
 
 -- the links of a tree whose nodes are all still to come
 zero-replicate : (count n : ℕ) → ◌≡◌ {A = ℕ} (get_or (replicate count 0) n 0) 0
@@ -211,14 +235,6 @@ AreLinksFrom-read nodes firsts nexts m n child d is links above within lower rea
     let C : ℕ → Type 0 = λ x. AreLinksFrom nodes (set firsts node.parent n) (set nexts n x) n in
     subst R (sym is)
     (subst C (sym stored) (AreLinksFrom-more nodes firsts nexts n node (subst M is links) above at (omega arith)))
-
--- the next child, as it is read
-pub IsWalk-read : (nodes : List CostNode) (firsts nexts : List ℕ) (n child next : ℕ) → AreLinksFrom nodes firsts nexts 1
-    → IsWalk nodes n child → child ≢ 0 → next ≡ slice_index nexts child
-    → IsWalk nodes n next × (chain nodes n child ≡ child ∷ chain nodes n next)
-IsWalk-read nodes firsts nexts n child next links walk some read =
-    let P : ℕ → Type 0 = λ k. IsWalk nodes n k × (chain nodes n child ≡ child ∷ chain nodes n k) in
-    subst P (sym read) (IsWalk-next nodes firsts nexts n child links walk some)
 
 -- the numbers of a range that pass a test
 pub ranged : (p : ℕ → Bool) (a count : ℕ)

@@ -2,13 +2,19 @@
 use Rattle.std.proofs.Common.{◌≡◌, ℕ, ◌-◌, ◌<◌, ◌≤◌, List, [], ◌∷◌, ◌++◌, length, take, get_or, Option, Some, refl, sym}
 use Rattle.std.proofs.Common.{ap, ◌∙◌, subst, append_assoc, arith}
 use Rattle.std.specs.Prelude.{All, Err, Ok, OnErr, OnOk, Result, unwrap_or}
-use Rattle.std.proofs.lemmas.List.{map-append, same_from_push}
+use Rattle.std.proofs.lemmas.List.{length-map, map-append, same_from_push}
 use Rattle.std.proofs.lemmas.List.Elements.{All-append, All-cons, All-get_or, All-head, All-nil, All-tail, All-take}
 use Rattle.std.proofs.lemmas.List.Elements.{All-weaker}
 use Rattle.intern_tables.specs.Numbers.{name_at}
 use Rattle.cost_tree.specs.GrowingLists.{LastGains}
 use Rattle.cost_tree.specs.Texts.{AreTexts, IsText, lists_of, text_of, texts_of}
 use Rattle.cost_tree.proofs.ShapeLists.{split-last}
+
+-- there are as many lists of numbers as of texts
+pub as-many-lists : (names : List (List ℕ)) (lists : List (List ℕ)) (seen : List (List (List ℕ)))
+    → lists_of names lists ≡ seen → length lists ≡ length seen
+as-many-lists names lists seen is =
+    sym (length-map lists (texts_of names)) ∙ ap (λ (ls : List (List (List ℕ))). length ls) is
 
 -- texts keep their numbers as names are added
 text-kept : (names new : List (List ℕ)) (n : ℕ) → ((k : ℕ) → k ≤ length names → name_at new k ≡ name_at names k)

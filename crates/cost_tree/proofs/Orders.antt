@@ -1,15 +1,16 @@
 -- Lemmas on what stands by descending cost.
-use Rattle.std.proofs.Common.{◌≡◌, ℕ, zero, suc, ◌<◌, ◌≤◌, ◌⊎◌, inl, inr, Bool, true, false, cond, List, [], ◌∷◌}
-use Rattle.std.proofs.Common.{length, map, filter, get_or, refl, sym, ap, ◌∙◌, subst, arith, IsPermutation}
-use Rattle.std.specs.Prelude.{All, AllPairs, Contains, nat_lt}
+use Rattle.std.proofs.Common.{◌≡◌, ℕ, ◌<◌, ◌≤◌, ◌⊎◌, inl, inr, Bool, true, false, cond, List, [], ◌∷◌}
+use Rattle.std.proofs.Common.{map, filter, get_or, refl, ap, ◌∙◌, arith, IsPermutation}
+use Rattle.std.specs.Prelude.{All, AllPairs, nat_lt}
 use Rattle.std.proofs.lemmas.Bool.{cases_Bool, cond_both, ltb-false, ltb-true}
-use Rattle.std.proofs.lemmas.List.Elements.{All-cons, All-head, All-tail, Contains-append_right}
+use Rattle.std.proofs.lemmas.List.Elements.{All-cons, All-head, All-tail}
 use Rattle.std.proofs.lemmas.List.Kept.{AllPairs-cons}
 use Rattle.std.proofs.lemmas.List.Sorted.{All-permutation, Contains-permutation, IsPermutation-cons}
 use Rattle.std.proofs.lemmas.List.Sorted.{IsPermutation-middle, IsPermutation-refl, IsPermutation-sym}
 use Rattle.std.proofs.lemmas.List.Sorted.{IsPermutation-trans}
 use Rattle.cost_tree.specs.declared.children.Child.{Child}
 use Rattle.cost_tree.specs.Order.{before_cheaper, by_cost}
+use Rattle.cost_tree.proofs.Ascending.{ordered-same, pairs-head, pairs-tail}
 
 -- the same elements in another order
 before_cheaper-permutation : {X : Type 0} (cost : X → ℕ) (x : X) (ys : List X)
@@ -55,12 +56,6 @@ cheaper-from a b (inr same) = let equal = same.0 in omega arith
 abbrev cost_of_child : Child → ℕ
 cost_of_child child = child.cost
 
-pairs-tail : {X : Type 0} (R : X → X → Type 0) (x : X) (xs : List X) → AllPairs R (x ∷ xs) → AllPairs R xs
-pairs-tail R x xs pairs = λ i j d before within. pairs (suc i) (suc j) d (omega arith) (omega arith)
-
-pairs-head : {X : Type 0} (R : X → X → Type 0) (x : X) (xs : List X) → AllPairs R (x ∷ xs) → All (R x) xs
-pairs-head R x xs pairs = λ k d within. pairs zero (suc k) d (omega arith) (omega arith)
-
 -- a child of a lower node than all others finds its place
 put-before : (x : Child) (ys : List Child) → All (λ y. x.node < y.node) ys → AllPairs IsBefore ys
     → AllPairs IsBefore (before_cheaper cost_of_child x ys)
@@ -95,56 +90,12 @@ by_cost-ordered (x ∷ xs) up =
     (All-permutation (R x) xs (by_cost cost_of_child xs) (by_cost-permutation cost_of_child xs) (pairs-head R x xs up))
     (by_cost-ordered xs (pairs-tail R x xs up))
 
--- an element is the first one or a later one
-in_cons : (x : Child) (xs : List Child) (y : Child) → Contains (x ∷ xs) y → (x ≡ y) ⊎ Contains xs y
-in_cons x xs y held = at held.0 held.1 held.2
-  where
-    at : (k : ℕ) → k < length (x ∷ xs) → get_or (x ∷ xs) k y ≡ y → (x ≡ y) ⊎ Contains xs y
-    at zero within is = inl is
-    at (suc k) within is = inr (k, omega arith, is)
-
--- the first comes before each later one
-first-before : (x : Child) (xs : List Child) (y : Child) → AllPairs IsBefore (x ∷ xs) → Contains xs y → IsBefore x y
-first-before x xs y pairs held = subst (IsBefore x) held.2 (pairs-head IsBefore x xs pairs held.0 y held.1)
-
-rest-same : (x : Child) (xs : List Child) (y : Child) (ys : List Child) (z : Child) → x ≡ y → AllPairs IsBefore (x ∷ xs)
-    → Contains xs z → Contains (y ∷ ys) z → Contains ys z
-rest-same x xs y ys z heads pairs here there =
-    elim (in_cons y ys z there) [
-      | inl is ↦
-          let before = first-before x xs z pairs here in
-          let itself : IsBefore z z = subst (λ a. IsBefore a z) (heads ∙ is) before in
-          absurd (not-both z z itself itself)
-      | inr later ↦ later
-    ]
-
--- two lists in this order that have the same elements are equal
-pub ordered-same : (xs ys : List Child) → AllPairs IsBefore xs → AllPairs IsBefore ys
-    → ((z : Child) → Contains xs z → Contains ys z) → ((z : Child) → Contains ys z → Contains xs z) → xs ≡ ys
-ordered-same [] [] up up' there back = refl
-ordered-same [] (y ∷ ys) up up' there back =
-    let held = back y (0, omega arith, refl) in let within = held.1 in absurd (omega arith)
-ordered-same (x ∷ xs) [] up up' there back =
-    let held = there x (0, omega arith, refl) in let within = held.1 in absurd (omega arith)
-ordered-same (x ∷ xs) (y ∷ ys) up up' there back =
-    let heads : x ≡ y = elim (in_cons y ys x (there x (0, omega arith, refl))) [
-      | inl is ↦ sym is
-      | inr after ↦ elim (in_cons x xs y (back y (0, omega arith, refl))) [
-        | inl is ↦ is
-        | inr later ↦ absurd (not-both x y (first-before x xs y up later) (first-before y ys x up' after))
-      ]
-    ] in
-    let rests = ordered-same xs ys (pairs-tail IsBefore x xs up) (pairs-tail IsBefore y ys up')
-    (λ z held. rest-same x xs y ys z heads up held (there z (Contains-append_right (x ∷ []) xs z held)))
-    (λ z held. rest-same y ys x xs z (sym heads) up' held (back z (Contains-append_right (y ∷ []) ys z held))) in
-    ap (λ (z : Child). z ∷ xs) heads ∙ ap (λ (zs : List Child). y ∷ zs) rests
-
--- so a list of the same elements in this order is the defined one
+-- a list of the same elements in this order is the defined one
 pub by_cost-is : (xs ys : List Child) → AllPairs (λ older younger. older.node < younger.node) xs → IsPermutation xs ys
     → AllPairs IsBefore ys → ys ≡ by_cost cost_of_child xs
 by_cost-is xs ys up same ordered =
     let defined = by_cost-permutation cost_of_child xs in
-    ordered-same ys (by_cost cost_of_child xs) ordered (by_cost-ordered xs up)
+    ordered-same IsBefore not-both ys (by_cost cost_of_child xs) ordered (by_cost-ordered xs up)
     (λ z held. Contains-permutation xs (by_cost cost_of_child xs) z defined
     (Contains-permutation ys xs z (IsPermutation-sym xs ys same) held))
     (λ z held. Contains-permutation xs ys z same

@@ -79,6 +79,11 @@ pub lists_in-push : (edges : List Edge) (ends : List ℕ) (end : ℕ)
     → lists_in edges (ends ++ end ∷ []) ≡ lists_in edges ends ++ list_at edges end ∷ []
 lists_in-push edges ends end = map-append (list_at edges) ends (end ∷ [])
 
+pub as-many-ends : (edges : List Edge) (ends : List ℕ) (lists : List (List ℕ)) → lists_in edges ends ≡ lists
+    → length ends ≡ length lists
+as-many-ends edges ends lists is =
+    sym (length-map ends (list_at edges)) ∙ ap (λ (ls : List (List ℕ)). length ls) is
+
 pub IsShape-push : (edges : List Edge) (ends : List ℕ) (end : ℕ) → IsShape edges ends → end ≤ length edges
     → length ends < 2 ^ 32 - 1 → IsShape edges (ends ++ end ∷ [])
 IsShape-push edges ends end is within few =

@@ -215,6 +215,13 @@ pub record AddsAt (at : List (List ℕ)) (cost stack : ℕ) (old new : List Cost
   pub first : inclusive at old ≡ 0 → least at new ≡ stack
   pub kept : (front : List (List ℕ)) → 0 < inclusive front old → least front new ≡ least front old
 
+-- a stack without texts adds nothing to any other front
+pub part-empty : (front : List (List ℕ)) (cost : ℕ) → front ≢ [] → part front (record { texts = []; cost = cost }) ≡ 0
+part-empty [] cost other = absurd (other refl)
+part-empty (text ∷ front) cost other =
+    part-other (text ∷ front) (record { texts = []; cost = cost })
+    (has_front-longer (text ∷ front) [] 0 (omega arith))
+
 -- the empty front is that of a stack that begins
 pub AddsAt-begin : (stacks : List Costed) (cost : ℕ) → 0 < cost
     → AddsAt [] cost (length stacks) stacks (stacks ++ record { texts = []; cost = cost } ∷ [])
@@ -226,16 +233,10 @@ AddsAt-begin stacks cost above =
     λ front. inclusive-push front stacks stack in
     record {
       sum = let push = sums [] in omega arith;
-      others = λ front other. let none = nothing front other in let push = sums front in omega arith;
+      others = λ front other. let none = part-empty front cost other in let push = sums front in omega arith;
       first = λ none. least-push_new [] stacks stack none (omega arith);
       kept = λ front some. least-push_old front stacks stack some;
     }
-  where
-    nothing : (front : List (List ℕ)) → front ≢ [] → part front (record { texts = []; cost = cost }) ≡ 0
-    nothing [] other = absurd (other refl)
-    nothing (text ∷ front) other =
-        part-other (text ∷ front) (record { texts = []; cost = cost })
-        (has_front-longer (text ∷ front) [] 0 (omega arith))
 
 -- one text more of a stack is one front more
 pub AddsAt-more : (stacks : List Costed) (texts : List (List ℕ)) (cost j : ℕ) → 0 < cost → j < length texts

@@ -2,6 +2,7 @@
 use Rattle.std.proofs.Common.{◌≡◌, ◌≢◌, ℕ, zero, suc, ◌+◌, ◌-◌, ◌<◌, ◌≤◌, inl, inr, Bool, true, if◌then◌else◌, List, []}
 use Rattle.std.proofs.Common.{◌∷◌, length, get_or, set, take, Some, refl, sym, ap, ◌∙◌, subst, arith}
 use Rattle.std.proofs.Math.Seq.{take-set-lt}
+use Rattle.std.specs.Bool.{Decides}
 use Rattle.std.specs.Prelude.{All, Contains, slice_get, sum_by}
 use Rattle.std.specs.Option.{option_map_or}
 use Rattle.std.proofs.lemmas.Bool.{cases_lt, cond-true, cond-false, eq-eqb, ne_eqb}
@@ -13,9 +14,10 @@ use Rattle.std.proofs.lemmas.Option.{same_Some, slice_get_within, slice_get-get_
 use Rattle.cost_tree.specs.declared.edge.Edge.{Edge}
 use Rattle.cost_tree.specs.declared.node.CostNode.{CostNode}
 use Rattle.cost_tree.specs.Children.{children_from, children_of, has_parent}
-use Rattle.cost_tree.specs.Costed.{Costed}
+use Rattle.cost_tree.specs.Costed.{Costed, costed}
 use Rattle.cost_tree.specs.Growth.{AreBranches, HasGrown, ending, weight}
 use Rattle.cost_tree.specs.Inclusive.{has_front, inclusive, is_front, own}
+use Rattle.cost_tree.specs.IsTreeOf.{IsTreeOf}
 use Rattle.cost_tree.specs.Summed.{AreSums, AreSumsFrom, cost_in}
 use Rattle.cost_tree.specs.Texts.{fronts_of}
 use Rattle.cost_tree.specs.TreeParts.{IsTree}
@@ -231,41 +233,43 @@ left-moved nodes k p node parent at parent_at lower =
     omega arith
 
 -- what ends at a front that may go on is its own, and what is cut at the deepest ones is all
-ending-same : (depth : ℕ) (front : List (List ℕ)) (test : List (List ℕ) → Bool) (stacks : List Costed)
-    → ((texts : List (List ℕ)) → is_front front (take depth texts) ≡ test texts)
+ending-same : (depth : ℕ) (front : List (List ℕ)) (P : List (List ℕ) → Type 0) (test : List (List ℕ) → Bool)
+    (stacks : List Costed)
+    → ((texts : List (List ℕ)) → Decides (test texts) (P texts))
+    → ((texts : List (List ℕ)) → front ≡ take depth texts → P texts)
+    → ((texts : List (List ℕ)) → P texts → front ≡ take depth texts)
     → ending depth front stacks ≡ sum_by (λ stack. if test stack.texts then stack.cost else 0) stacks
 unfolding ending
-ending-same depth front test stacks same =
+ending-same depth front P test stacks decides there back =
     sum-same (λ (stack : Costed). if is_front front (take depth stack.texts) then stack.cost else 0)
     (λ (stack : Costed). if test stack.texts then stack.cost else 0) stacks
     (λ k d within. ap (λ (b : Bool). if b then (get_or stacks k d).cost else 0) (same (get_or stacks k d).texts))
+  where
+    same : (texts : List (List ℕ)) → is_front front (take depth texts) ≡ test texts
+    same texts =
+        same_from_decides (is_front front (take depth texts)) (test texts) (is_front-Decides front (take depth texts)) (
+          (λ has. back texts ((decides texts).0 has)),
+          (λ is. (decides texts).1 (there texts is)),
+        )
 
 ending-own : (depth : ℕ) (front : List (List ℕ)) (stacks : List Costed) → length front < depth
     → ending depth front stacks ≡ own front stacks
 unfolding own
 ending-own depth front stacks short =
-    ending-same depth front (λ texts. is_front front texts) stacks (λ texts.
-    same_from_decides (is_front front (take depth texts)) (is_front front texts)
-    (is_front-Decides front (take depth texts)) (
-      (λ is. (is_front-Decides front texts).0 is
-          ∙ sym (take_all depth texts
-          (let count = ap (λ (xs : List (List ℕ)). length xs) ((is_front-Decides front texts).0 is) in omega arith))),
-      (λ is. (is_front-Decides front texts).1
-          (is
-          ∙ take_all depth texts
-          (let count = ap (λ (xs : List (List ℕ)). length xs) is ∙ length-take depth texts in omega arith))),
-    ))
+    ending-same depth front (λ texts. front ≡ texts) (λ texts. is_front front texts) stacks (is_front-Decides front)
+    (λ texts is. is
+    ∙ take_all depth texts
+    (let count = ap (λ (xs : List (List ℕ)). length xs) is ∙ length-take depth texts in omega arith))
+    (λ texts is. is
+    ∙ sym (take_all depth texts (let count = ap (λ (xs : List (List ℕ)). length xs) is in omega arith)))
 
 ending-deep : (depth : ℕ) (front : List (List ℕ)) (stacks : List Costed) → length front ≡ depth
     → ending depth front stacks ≡ inclusive front stacks
 unfolding inclusive
 ending-deep depth front stacks deep =
-    ending-same depth front (λ texts. has_front front texts) stacks (λ texts.
-    same_from_decides (is_front front (take depth texts)) (has_front front texts)
-    (is_front-Decides front (take depth texts)) (
-      (λ has. (has_front-Decides front texts).0 has ∙ ap (λ (k : ℕ). take k texts) deep),
-      (λ is. (has_front-Decides front texts).1 (is ∙ ap (λ (k : ℕ). take k texts) (sym deep))),
-    ))
+    ending-same depth front (λ texts. front ≡ take (length front) texts) (λ texts. has_front front texts) stacks
+    (has_front-Decides front) (λ texts is. is ∙ ap (λ (k : ℕ). take k texts) (sym deep))
+    (λ texts is. is ∙ ap (λ (k : ℕ). take k texts) deep)
 
 -- each node behind a node costs what its front does
 abbrev Behind : List (List (List ℕ)) → List CostNode → List Costed → ℕ → Type 0
@@ -351,6 +355,12 @@ costs-are names edges nodes summed stacks depth (suc fuel) n front node has sums
     (λ m f other later f_at other_at. costs-are names edges nodes summed stacks depth fuel m f other has sums
     (omega arith) (omega arith) f_at other_at)
     above front_at node_at
+
+-- a tree of lists is that of equal ones
+pub IsTreeOf-lists : {tree : TreeState} {depth : ℕ} (lists new : List (List (List ℕ))) (costs : List ℕ) → lists ≡ new
+    → IsTreeOf tree (costed lists costs) depth → IsTreeOf tree (costed new costs) depth
+IsTreeOf-lists {tree} {depth} lists new costs same is =
+    subst (λ (ls : List (List (List ℕ))). IsTreeOf tree (costed ls costs) depth) same is
 
 -- a tree of the same edges and nodes
 pub IsTree-same : (names : List (List ℕ)) (edges other : List Edge) (nodes others : List CostNode)

@@ -5,9 +5,11 @@ use Rattle.cost_tree.specs.declared.lines.Pending.{Pending}
 use Rattle.cost_tree.specs.declared.lines.Pending.TheVariants.{Below}
 use Rattle.cost_tree.specs.Pendings.{IsPending, pending_below, pending_line}
 use Rattle.cost_tree.specs.TreeLines.{IsPlace}
-use Rattle.cost_tree.proofs.Walks.{left-smaller, step-is, weight}
+use Rattle.cost_tree.proofs.Walks.{IsStep, left-smaller, step-is, weight}
 use Rattle.cost_tree.proofs.Walking.{IsWalking, walking-line, walking-next, walking-root}
 use Rattle.cost_tree.proofs.lines.take_lines.Goals as goal
+use Rattle.cost_tree.proofs.lines.take_lines.Given.{Over}
+use Rattle.cost_tree.proofs.lines.take_lines.Goals.{In-Some}
 
 pub each_pending-init : goal.each_pending-init
 each_pending-init g c =
@@ -20,21 +22,20 @@ each_pending-init g c =
       c.requires.none_yet,
     )
 
-pub take_pending-requires-clause-within : goal.take_pending-requires-clause-within
-take_pending-requires-clause-within g c =
+-- what is taken from what is pending
+step : (g : Over) (c : In-Some g)
+    → IsStep c.args.scale c.args.tree.now c.requires.tree.0 c.requires.tree.1 c.in-Some.next
+step g c =
     let held =
     All-pop (IsPending c.args.tree.now) c.each_pending.pending.items c.pop.new.self.items (Some c.in-Some.next)
     c.in-Some.ensures.items c.each_pending.invariant.1.held in
-    (step-is c.args.scale c.args.tree.now c.requires.tree.0 c.requires.tree.1 c.in-Some.next c.requires.tree.2
-    held.1).within
+    step-is c.args.scale c.args.tree.now c.requires.tree.0 c.requires.tree.1 c.in-Some.next c.requires.tree.2 held.1
+
+pub take_pending-requires-clause-within : goal.take_pending-requires-clause-within
+take_pending-requires-clause-within g c = (step g (goal.at.take_pending-requires-clause-within g c).In-Some).within
 
 pub take_pending-requires-clause-few : goal.take_pending-requires-clause-few
-take_pending-requires-clause-few g c =
-    let held =
-    All-pop (IsPending c.args.tree.now) c.each_pending.pending.items c.pop.new.self.items (Some c.in-Some.next)
-    c.in-Some.ensures.items c.each_pending.invariant.1.held in
-    (step-is c.args.scale c.args.tree.now c.requires.tree.0 c.requires.tree.1 c.in-Some.next c.requires.tree.2
-    held.1).few
+take_pending-requires-clause-few g c = (step g (goal.at.take_pending-requires-clause-few g c).In-Some).few
 
 pub take_line-requires-clause-place : goal.take_line-requires-clause-place
 take_line-requires-clause-place g c =
@@ -47,13 +48,9 @@ take_line-requires-clause-place g c =
 pub each_pending-smaller : goal.each_pending-smaller
 each_pending-smaller g c =
     let tree = c.args.tree.now in
-    let held =
-    All-pop (IsPending tree) c.each_pending.pending.items c.pop.new.self.items (Some c.in-Some.next)
-    c.in-Some.ensures.items c.each_pending.invariant.1.held in
-    let step = step-is c.args.scale tree c.requires.tree.0 c.requires.tree.1 c.in-Some.next c.requires.tree.2 held.1 in
     left-smaller (weight tree) c.each_pending.pending.items c.pop.new.self.items c.take_pending.new.pending.items
     (pending_below c.args.scale tree c.in-Some.next) c.in-Some.next
-    c.in-Some.ensures.items c.in_ok-line.ensures.below step.lighter
+    c.in-Some.ensures.items c.in_ok-line.ensures.below (step g (goal.at.each_pending-smaller g c).In-Some).lighter
 
 pub each_pending-preserved : goal.each_pending-preserved
 each_pending-preserved g c =

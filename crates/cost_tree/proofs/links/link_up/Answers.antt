@@ -7,6 +7,7 @@ use Rattle.cost_tree.specs.NodeLinks.{firsts_in, nexts_in}
 use Rattle.cost_tree.proofs.Beside.{first-read, linked, linked-is}
 use Rattle.cost_tree.proofs.Linking.{AreLinksFrom-read, AreLinksFrom-start, no_node}
 use Rattle.cost_tree.proofs.links.link_up.Goals as goal
+use Rattle.cost_tree.proofs.links.link_up.Goals.{In-each_node}
 
 pub each_node-init : goal.each_node-init
 each_node-init c = record {
@@ -21,8 +22,10 @@ each_node-init c = record {
       AreLinksFrom-start nodes (firsts_in links) (nexts_in links) m is c.requires.some c.requires.none (omega arith);
 }
 
-pub index-requires : goal.index-requires
-index-requires c =
+-- the parent of a node stands before it, and so has a link
+parent-linked : (c : In-each_node)
+    → (get_or c.args.nodes.now (length c.args.nodes.now - c.each_node.done) no_node).parent < c.each_node.links.len
+parent-linked c =
     let nodes = c.args.nodes.now in
     let n : ℕ = length nodes - c.each_node.done in
     let links : List Link = c.each_node.links.items in
@@ -33,17 +36,11 @@ index-requires c =
     c.requires.lower n (get_or nodes n no_node) (omega arith) (slice_get-get_or nodes n no_node (omega arith)) in
     omega arith
 
+pub index-requires : goal.index-requires
+index-requires c = parent-linked (goal.at.index-requires c).In-each_node
+
 pub index_mut-requires-in-each_node : goal.index_mut-requires-in-each_node
-index_mut-requires-in-each_node c =
-    let nodes = c.args.nodes.now in
-    let n : ℕ = length nodes - c.each_node.done in
-    let links : List Link = c.each_node.links.items in
-    let inside = c.each_node-test.true in
-    let count = (c.each_node.invariant.children (n + 1) (omega arith)).firsts_count in
-    let firsts = length-map links (λ (l : Link). l.first_child) in
-    let below =
-    c.requires.lower n (get_or nodes n no_node) (omega arith) (slice_get-get_or nodes n no_node (omega arith)) in
-    omega arith
+index_mut-requires-in-each_node c = parent-linked (goal.at.index_mut-requires-in-each_node c).In-each_node
 
 pub each_node-preserved : goal.each_node-preserved
 each_node-preserved c =

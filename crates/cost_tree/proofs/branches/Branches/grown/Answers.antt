@@ -23,16 +23,14 @@ each_list-init c =
 pub each_list-preserved-then-costs-list-eq0 : goal.each_list-preserved-then-costs-list-eq0
 each_list-preserved-then-costs-list-eq0 c =
     let now = c.each_list.invariant in
-    let keys = c.args.edges.now in
-    let ends = c.args.ends.now in
-    let costs = c.args.costs.now in
-    let more = taken-more costs c.each_list.list c.each_list-test.true in
+    let more = taken-more c.args.costs.now c.each_list.list c.each_list-test.true in
     record {
       built = now.built;
       weight = let so_far = now.weight in omega arith;
       grown =
-          AreGrown-free keys ends costs c.args.depth c.each_list.branches c.each_list.list
-          (omega (arith, c.requires.as_many)) (omega (arith, c.requires.as_many)) c.if-costs-list-eq0.true now.grown;
+          AreGrown-free c.args.edges.now c.args.ends.now c.args.costs.now c.args.depth c.each_list.branches
+          c.each_list.list (omega (arith, c.requires.as_many)) (omega (arith, c.requires.as_many))
+          c.if-costs-list-eq0.true now.grown;
     }
 
 pub add-requires-clause-room : goal.add-requires-clause-room
@@ -46,16 +44,14 @@ add-requires-clause-room c =
 pub each_list-preserved : goal.each_list-preserved
 each_list-preserved c =
     let now = c.each_list.invariant in
-    let keys = c.args.edges.now in
-    let ends = c.args.ends.now in
-    let costs = c.args.costs.now in
-    let more = taken-more costs c.each_list.list c.each_list-test.true in
+    let more = taken-more c.args.costs.now c.each_list.list c.each_list-test.true in
     record {
       built = c.in_ok-add.ensures.built;
       weight = omega (arith, now.weight, c.in_ok-add.ensures.weight);
       grown =
-          AreGrown-more keys ends costs c.args.depth c.each_list.branches c.add.new.self c.each_list.list
-          (omega (arith, c.requires.as_many)) (omega (arith, c.requires.as_many)) c.in_ok-add.ensures.grown now.grown;
+          AreGrown-more c.args.edges.now c.args.ends.now c.args.costs.now c.args.depth c.each_list.branches
+          c.add.new.self c.each_list.list (omega (arith, c.requires.as_many)) (omega (arith, c.requires.as_many))
+          c.in_ok-add.ensures.grown now.grown;
     }
 
 pub returns-clause-grown : goal.returns-clause-grown

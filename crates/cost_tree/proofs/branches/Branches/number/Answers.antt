@@ -1,4 +1,4 @@
-use Rattle.std.proofs.Common.{ℕ, ◌+◌, ◌<◌, List, length, refl, sym, ap, ◌∙◌, subst, arith}
+use Rattle.std.proofs.Common.{ℕ, ◌+◌, ◌<◌, List, length, refl, sym, ap, ◌∙◌, subst, arith, rules}
 use Rattle.std.specs.Prelude.{slice_index}
 use Rattle.std.proofs.lemmas.List.{get_or_read, length_push}
 use Rattle.std.proofs.lemmas.Option.{get_or_from_slice_get, slice_get_within}
@@ -24,14 +24,7 @@ each_node-init c =
     let most = built.numbers up.node (n + 1) inside in
     let is = get_or_from_slice_get tree.numbered.items up.node (n + 1) (n + 1) up.number in
     record {
-      built = record {
-        nodes_count = built.nodes_count;
-        levels_count = built.levels_count;
-        numbered_count = built.numbered_count;
-        numbers = built.numbers;
-        root = built.root;
-        lower = built.lower;
-      };
+      built = search rules;
       held = omega arith;
       weight = refl;
       left = record { short = up.way.short; each = up.way.each };

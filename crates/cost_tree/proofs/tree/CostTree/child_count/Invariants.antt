@@ -1,11 +1,13 @@
 use Rattle.std.proofs.Common.{◌≡◌, ◌+◌, length}
 use Rattle.cost_tree.specs.Children.{chain, children_of}
+use Rattle.cost_tree.specs.NodeLinks.{firsts_in, nexts_in}
 use Rattle.cost_tree.proofs.Linking.{IsWalk}
 use Rattle.cost_tree.proofs.tree.CostTree.child_count.Given as goal
 
 abbrev pub invariant-each_child : goal.invariant-each_child
 invariant-each_child l = record {
-  walk : IsWalk l.self-inside.nodes.items l.n l.child;
+  walk : IsWalk l.self-inside.nodes.items (firsts_in l.self-inside.links.links.items)
+      (nexts_in l.self-inside.links.links.items) l.n l.child;
   rest : l.count + length (chain l.self-inside.nodes.items l.n l.child)
       ≡ length (children_of l.self-inside.nodes.items l.n);
 }
