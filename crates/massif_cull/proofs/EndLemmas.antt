@@ -106,32 +106,15 @@ kept-all entries xs place all =
 -- ---- how many may go
 
 -- one more place
-pub count_may_go-stays : (entries : List SnapEntry) (place next : ℕ) → place + 1 ≡ next → next < length entries
-    → may_go entries place ≡ false
-    → count_may_go entries place (length entries - 1 - place) ≡ count_may_go entries next (length entries - 1 - next)
-count_may_go-stays entries place next follows inside stays =
+pub count_may_go-next : (entries : List SnapEntry) (place next : ℕ) (goes : Bool) → place + 1 ≡ next
+    → next < length entries → may_go entries place ≡ goes
+    → count_may_go entries place (length entries - 1 - place)
+    ≡ (if goes then 1 else 0) + count_may_go entries next (length entries - 1 - next)
+count_may_go-next entries place next goes follows inside is =
     let more : length entries - 1 - place ≡ suc (length entries - 1 - next) = omega arith in
-    let first : count_may_go entries place (length entries - 1 - place)
-    ≡ 0 + count_may_go entries (place + 1) (length entries - 1 - next) =
     ap (count_may_go entries place) more
-    ∙ ap (λ (b : Bool). (if b then 1 else 0) + count_may_go entries (place + 1) (length entries - 1 - next)) stays
-    in
-    let rest = ap (λ (k : ℕ). count_may_go entries k (length entries - 1 - next)) follows in
-    omega (arith, first, rest)
-
-pub count_may_go-goes : (entries : List SnapEntry) (place next : ℕ) → place + 1 ≡ next → next < length entries
-    → may_go entries place ≡ true
-    → count_may_go entries place (length entries - 1 - place) ≡ count_may_go entries next
-    (length entries - 1 - next) + 1
-count_may_go-goes entries place next follows inside goes =
-    let more : length entries - 1 - place ≡ suc (length entries - 1 - next) = omega arith in
-    let first : count_may_go entries place (length entries - 1 - place)
-    ≡ 1 + count_may_go entries (place + 1) (length entries - 1 - next) =
-    ap (count_may_go entries place) more
-    ∙ ap (λ (b : Bool). (if b then 1 else 0) + count_may_go entries (place + 1) (length entries - 1 - next)) goes
-    in
-    let rest = ap (λ (k : ℕ). count_may_go entries k (length entries - 1 - next)) follows in
-    omega (arith, first, rest)
+    ∙ ap (λ (b : Bool). (if b then 1 else 0) + count_may_go entries (place + 1) (length entries - 1 - next)) is
+    ∙ ap (λ (k : ℕ). (if goes then 1 else 0) + count_may_go entries k (length entries - 1 - next)) follows
 
 -- of some there is one
 one-goes : (entries : List SnapEntry) (place n : ℕ) → 0 < count_may_go entries place n
@@ -211,6 +194,20 @@ count_may_go-removed entries p place (suc n) goes some inside low high =
 
 -- ---- which one goes
 
+-- the last of the places is the one where its gap is below those of all others that may go
+least-last : (entries : List SnapEntry) (n : ℕ) → may_go entries n ≡ true
+    → ((j : ℕ) → j < n → may_go entries j ≡ true → gap_at entries n < gap_at entries j)
+    → IsFirstLeast entries n (suc n)
+least-last entries n goes less = record {
+  goes = goes;
+  below = omega arith;
+  not_greater = λ j below other. elim (cases_eq j n) [
+    | inl same ↦ (let e = ap (gap_at entries) same in omega arith)
+    | inr early ↦ (let more = less j (omega arith) other in omega arith)
+  ];
+  less = less;
+}
+
 -- of the places below a number, none may go, or one is the first with the least gap
 find-least : (entries : List SnapEntry) (n : ℕ)
     → ((k : ℕ) → k < n → may_go entries k ≡ false) ⊎ ((p : ℕ) × IsFirstLeast entries p n)
@@ -218,32 +215,15 @@ find-least entries zero = inl (λ k below. absurd (omega arith))
 find-least entries (suc n) =
     elim (cases_Bool (may_go entries n)) [
       | inl goes ↦ elim (find-least entries n) [
-        | inl none ↦ inr (
-          n,
-          record {
-            goes = goes;
-            below = omega arith;
-            not_greater = λ j below other. elim (cases_eq j n) [
-              | inl same ↦ (let e = ap (gap_at entries) same in omega arith)
-              | inr early ↦ absurd (both_ways _ (none j (omega arith)) other)
-            ];
-            less = λ j before other. absurd (both_ways _ (none j before) other);
-          },
-        )
+        | inl none ↦
+            inr (n, least-last entries n goes (λ j before other. absurd (both_ways _ (none j before) other)))
         | inr found ↦
             let least = found.1 in
             elim (cases_lt (gap_at entries n) (gap_at entries found.0)) [
               | inl less ↦ inr (
                 n,
-                record {
-                  goes = goes;
-                  below = omega arith;
-                  not_greater = λ j below other. elim (cases_eq j n) [
-                    | inl same ↦ (let e = ap (gap_at entries) same in omega arith)
-                    | inr early ↦ (let more = least.not_greater j (omega arith) other in omega arith)
-                  ];
-                  less = λ j before other. (let more = least.not_greater j before other in omega arith);
-                },
+                least-last entries n goes
+                    (λ j before other. (let more = least.not_greater j before other in omega arith)),
               )
               | inr most ↦ inr (
                 found.0,

@@ -454,20 +454,26 @@ others-after keys place before gap_before after gap_after q not_place not_before
     ∙ gap-other (with_gap keys place never) before gap_before q not_before
     ∙ gap-other keys place never q not_place
 
+-- the place stands between two others, and has its key
+pub record IsBetween (places : List ℕ) (entries : List SnapEntry) (keys : List Key)
+    (k place before after : ℕ) : Type 0 where
+  pub keyed : AreKeyed places entries keys
+  pub here : slice_get places k ≡ Some place
+  pub some : 0 < k
+  pub inside : k + 1 < length entries
+  pub at_before : slice_get places (k - 1) ≡ Some before
+  pub at_after : slice_get places (k + 1) ≡ Some after
+
 -- the gap of each place that is left
 new-gap :
     (places : List ℕ) (entries : List SnapEntry) (keys : List Key) (k place before after j p : ℕ)
-    → AreKeyed places entries keys
-    → slice_get places k ≡ Some place
-    → 0 < k
-    → k + 1 < length entries
-    → slice_get places (k - 1) ≡ Some before
-    → slice_get places (k + 1) ≡ Some after
+    → IsBetween places entries keys k place before after
     → slice_get (remove places k) j ≡ Some p
     → (key_at
     (keys_after keys place before (gap_to_go (remove entries k) (k - 1)) after (gap_to_go (remove entries k) k)) p).gap
     ≡ gap_to_go (remove entries k) j
-new-gap places entries keys k place before after j p keyed here some inside at_before at_after at =
+new-gap places entries keys k place before after j p between at =
+    let keyed = between.keyed in
     let gap_before = gap_to_go (remove entries k) (k - 1) in
     let gap_after = gap_to_go (remove entries k) k in
     let one = with_gap keys place never in
@@ -476,13 +482,13 @@ new-gap places entries keys k place before after j p keyed here some inside at_b
     let long_two : length (with_gap (with_gap keys place never) before (gap_to_go (remove entries k) (k - 1)))
     ≡ length (with_gap keys place never) =
     length-set (with_gap keys place never) before _ in
-    let in_before = each-at (λ q. q < length keys) places (k - 1) before at_before keyed.below in
-    let in_after = each-at (λ q. q < length keys) places (k + 1) after at_after keyed.below in
+    let in_before = each-at (λ q. q < length keys) places (k - 1) before between.at_before keyed.below in
+    let in_after = each-at (λ q. q < length keys) places (k + 1) after between.at_after keyed.below in
     elim (cases_eq j k) [
       | inl same ↦
           let next : suc k ≡ k + 1 = omega arith in
           let is : after ≡ p = same_Some after p
-          (sym at_after ∙ ap (slice_get places) (sym next) ∙ sym (get-remove_above places k k (omega arith))
+          (sym between.at_after ∙ ap (slice_get places) (sym next) ∙ sym (get-remove_above places k k (omega arith))
           ∙ ap (slice_get (remove places k)) (sym same) ∙ at) in
           subst (λ (q : ℕ). (key_at (with_gap two after gap_after) q).gap ≡ gap_to_go (remove entries k) j) is
           (gap-same two after gap_after (omega arith) ∙ ap (gap_to_go (remove entries k)) (sym same))
@@ -490,47 +496,44 @@ new-gap places entries keys k place before after j p keyed here some inside at_b
         | inl next ↦
             let back : k - 1 ≡ j = omega arith in
             let is : before ≡ p = same_Some before p
-            (sym at_before ∙ ap (slice_get places) back ∙ sym (get-remove_below places k j (omega arith)) ∙ at) in
+            (sym between.at_before ∙ ap (slice_get places) back ∙ sym (get-remove_below places k j (omega arith)) ∙ at) in
             let beside_apart : before ≢ after =
-            apart-at places (k - 1) (k + 1) before after keyed.different at_before at_after (λ e. omega arith) in
+            apart-at places (k - 1) (k + 1) before after keyed.different between.at_before between.at_after
+            (λ e. omega arith) in
             subst (λ (q : ℕ). (key_at (with_gap two after gap_after) q).gap ≡ gap_to_go (remove entries k) j) is
             (ap (λ (key : Key). key.gap) (gap-other two after gap_after before beside_apart)
             ∙ gap-same one before gap_before (omega arith)
             ∙ ap (gap_to_go (remove entries k)) back)
         | inr far ↦
             let old = kept-at places k j p at in
-            let not_place : p ≢ place = apart-at places old.0 k p place keyed.different old.1 here (λ e. elim old.2 [
+            let not_place : p ≢ place = apart-at places old.0 k p place keyed.different old.1 between.here (λ e. elim old.2 [
               | inl early ↦ (let a = early.0 in let b = early.1 in omega arith)
               | inr late ↦ (let a = late.0 in let b = late.1 in far (omega arith))
             ]) in
             let not_before : p ≢ before =
-            apart-at places old.0 (k - 1) p before keyed.different old.1 at_before (λ e. elim old.2 [
+            apart-at places old.0 (k - 1) p before keyed.different old.1 between.at_before (λ e. elim old.2 [
               | inl early ↦ (let a = early.0 in let b = early.1 in far (omega arith))
               | inr late ↦ (let a = late.0 in let b = late.1 in omega arith)
             ]) in
             let not_after : p ≢ after =
-            apart-at places old.0 (k + 1) p after keyed.different old.1 at_after (λ e. elim old.2 [
+            apart-at places old.0 (k + 1) p after keyed.different old.1 between.at_after (λ e. elim old.2 [
               | inl early ↦ (let a = early.0 in let b = early.1 in omega arith)
               | inr late ↦ (let a = late.0 in let b = late.1 in other (omega arith))
             ]) in
             ap (λ (key : Key). key.gap)
             (others-after keys place before gap_before after gap_after p not_place not_before not_after)
             ∙ keyed.gaps old.0 p old.1
-            ∙ gap-kept entries k old.0 j some inside old.2 far other
+            ∙ gap-kept entries k old.0 j between.some between.inside old.2 far other
       ]
     ]
 
 pub keyed-removed :
     (places : List ℕ) (entries : List SnapEntry) (keys : List Key) (k place before after : ℕ)
-    → AreKeyed places entries keys
-    → slice_get places k ≡ Some place
-    → 0 < k
-    → k + 1 < length entries
-    → slice_get places (k - 1) ≡ Some before
-    → slice_get places (k + 1) ≡ Some after
+    → IsBetween places entries keys k place before after
     → AreKeyed (remove places k) (remove entries k)
     (keys_after keys place before (gap_to_go (remove entries k) (k - 1)) after (gap_to_go (remove entries k) k))
-keyed-removed places entries keys k place before after keyed here some inside at_before at_after =
+keyed-removed places entries keys k place before after between =
+    let keyed = between.keyed in
     let gap_before = gap_to_go (remove entries k) (k - 1) in
     let gap_after = gap_to_go (remove entries k) k in
     let keys_new =
@@ -538,17 +541,18 @@ keyed-removed places entries keys k place before after keyed here some inside at
     let beside = keyed.beside in
     let fewer = length-remove entries k (omega arith) in
     let fewer_places = length-remove places k (omega arith) in
-    let in_place = each-at (λ p. p < length keys) places k place here keyed.below in
-    let in_before = each-at (λ p. p < length keys) places (k - 1) before at_before keyed.below in
-    let in_after = each-at (λ p. p < length keys) places (k + 1) after at_after keyed.below in
+    let in_place = each-at (λ p. p < length keys) places k place between.here keyed.below in
+    let in_before = each-at (λ p. p < length keys) places (k - 1) before between.at_before keyed.below in
+    let in_after = each-at (λ p. p < length keys) places (k + 1) after between.at_after keyed.below in
     let long =
     length-after keys place before (gap_to_go (remove entries k) (k - 1)) after (gap_to_go (remove entries k) k) in
     let not_before : place ≢ before =
-    apart-at places k (k - 1) place before keyed.different here at_before (λ e. omega arith) in
+    apart-at places k (k - 1) place before keyed.different between.here between.at_before (λ e. omega arith) in
     let not_after : place ≢ after =
-    apart-at places k (k + 1) place after keyed.different here at_after (λ e. omega arith) in
+    apart-at places k (k + 1) place after keyed.different between.here between.at_after (λ e. omega arith) in
     let beside_apart : before ≢ after =
-    apart-at places (k - 1) (k + 1) before after keyed.different at_before at_after (λ e. omega arith) in
+    apart-at places (k - 1) (k + 1) before after keyed.different between.at_before between.at_after
+    (λ e. omega arith) in
     record {
       beside = omega arith;
       different = different-remove places k keyed.different;
@@ -560,7 +564,7 @@ keyed-removed places entries keys k place before after keyed here some inside at
           (rest-after keys place before gap_before after gap_after p in_place in_before in_after).1
           ∙ keyed.own old.0 p old.1;
       gaps =
-          λ j p at. new-gap places entries keys k place before after j p keyed here some inside at_before at_after at;
+          λ j p at. new-gap places entries keys k place before after j p between at;
       order = λ i j other p less there at.
           (let one = kept-at places k i other there in
           let two = kept-at places k j p at in
@@ -588,9 +592,9 @@ keyed-removed places entries keys k place before after keyed here some inside at
             ∙ gap-other (with_gap keys place never) before gap_before place not_before)
             ∙ gap-same keys place never in_place)
         | inr apart ↦
-            let was_out = outside-remove places k place p here apart out in
-            let no_before : p ≢ before = each-at (λ q. p ≢ q) places (k - 1) before at_before was_out in
-            let no_after : p ≢ after = each-at (λ q. p ≢ q) places (k + 1) after at_after was_out in
+            let was_out = outside-remove places k place p between.here apart out in
+            let no_before : p ≢ before = each-at (λ q. p ≢ q) places (k - 1) before between.at_before was_out in
+            let no_after : p ≢ after = each-at (λ q. p ≢ q) places (k + 1) after between.at_after was_out in
             ap (λ (key : Key). key.gap)
             (others-after keys place before gap_before after gap_after p apart no_before no_after)
             ∙ keyed.others p was_out
@@ -601,12 +605,7 @@ keyed-removed places entries keys k place before after keyed here some inside at
 pub keyed-next :
     (places new_places : List ℕ) (entries new_entries : List SnapEntry) (keys one two three : List Key)
     (k place before after gap_before gap_after : ℕ)
-    → AreKeyed places entries keys
-    → slice_get places k ≡ Some place
-    → 0 < k
-    → k + 1 < length entries
-    → slice_get places (k - 1) ≡ Some before
-    → slice_get places (k + 1) ≡ Some after
+    → IsBetween places entries keys k place before after
     → new_places ≡ remove places k
     → new_entries ≡ remove entries k
     → gap_before ≡ gap_to_go new_entries (k - 1)
@@ -615,8 +614,8 @@ pub keyed-next :
     → two ≡ with_gap one before gap_before
     → three ≡ with_gap two after gap_after
     → AreKeyed new_places new_entries three
-keyed-next places new_places entries new_entries keys one two three k place before after gap_before gap_after keyed here
-    some inside at_before at_after is_places is_entries is_before is_after is_one is_two is_three =
+keyed-next places new_places entries new_entries keys one two three k place before after gap_before gap_after between
+    is_places is_entries is_before is_after is_one is_two is_three =
     let made : three ≡ keys_after keys place before gap_before after gap_after =
     is_three
     ∙ ap (λ (ks : List Key). with_gap ks after gap_after)
@@ -638,7 +637,7 @@ keyed-next places new_places entries new_entries keys one two three k place befo
     (keys_after keys place before (gap_to_go (remove entries k) (k - 1)) after (gap_to_go (remove entries k) k)))
     (sym
     is_entries)
-    (keyed-removed places entries keys k place before after keyed here some inside at_before at_after)))
+    (keyed-removed places entries keys k place before after between)))
 
 -- where there are entries there are keys
 pub keys-some : (places : List ℕ) (entries : List SnapEntry) (keys : List Key) → AreKeyed places entries keys

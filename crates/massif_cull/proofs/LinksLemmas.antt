@@ -9,7 +9,8 @@ use Rattle.std.proofs.lemmas.List.{get_or_default, length-set, length_push}
 use Rattle.std.proofs.lemmas.List.Edits.{length-remove}
 use Rattle.std.proofs.lemmas.Option.{slice_get_within}
 use Rattle.massif_cull.specs.declared.links.Links.TheInside.{Inside}
-use Rattle.massif_cull.specs.Linked.{walk, unless_end, IsOutside, AreBelow, AreDifferent, AreLinked, links_of, IsLinked}
+use Rattle.massif_cull.specs.Linked.{walk, unless_end, EachOf, IsOutside, AreBelow, AreDifferent, AreLinked, links_of, IsLinked}
+use Rattle.massif_cull.specs.LinksState.{IsNext, IsPrevious}
 use Rattle.massif_cull.proofs.Linking.{each-left, each-right, each-at, each-weaker, each-given, each-returned}
 use Rattle.massif_cull.proofs.Linking.{contained-at, different-left, different-pop, different-given, different-returned}
 use Rattle.massif_cull.proofs.Linking.{length-walk, walk-is, next-at, prev-at, prev-front, last-at, prev-holds}
@@ -62,33 +63,41 @@ unless_end-below end p o is most =
 
 -- ---- what is read
 
+-- what is read at a place of the list is the number there
+read-at : (links : Inside) (xs : List ℕ) (place x : ℕ) → IsLinked links → Contains (places_of links) place
+    → length xs ≡ links.max + 1 → x ≡ get_or xs place x → x ≡ slice_index xs place
+read-at links xs place x is held long read =
+    let inside = contained-below links place is held in
+    read-link xs place x (omega arith) read
+
+-- so it is a place or the end, where that is true of what stands there
+beside-most : (links : Inside) (xs : List ℕ) (place x : ℕ) → IsLinked links → Contains (places_of links) place
+    → length xs ≡ links.max + 1
+    → ((k : ℕ) → slice_get (places_of links) k ≡ Some place → slice_index xs place ≤ links.max)
+    → x ≡ get_or xs place x → x ≤ links.max
+beside-most links xs place x is held long most read =
+    let at = contained-at (places_of links) place held in
+    subst (λ (n : ℕ). n ≤ links.max) (sym (read-at links xs place x is held long read)) (most at.0 at.1)
+
+places-most : (links : Inside) → IsLinked links → EachOf (λ p. p ≤ links.max) (places_of links)
+places-most links is =
+    each-weaker (λ p. p < links.max) (λ p. p ≤ links.max) (places_of links) (λ p less. omega arith)
+    (places-below links is)
+
 -- the neighbours that are linked are places, or the end
 pub before-most : (links : Inside) (place before : ℕ) → IsLinked links → Contains (places_of links) place
     → before ≡ get_or links.prev.items place before → before ≤ links.max
-before-most links place before is held read =
-    let at = contained-at (places_of links) place held in
-    let inside = contained-below links place is held in
-    let same = read-link links.prev.items place before (omega (arith, is.prev_length)) read in
-    let most =
-    prev-holds (λ p. p ≤ links.max) links.next.items links.prev.items links.max (places_of links) links.max at.0 place
-    at.1 is.linked (omega arith)
-    (each-weaker (λ p. p < links.max) (λ p. p ≤ links.max) (places_of links) (λ p less. omega arith)
-    (places-below links is)) in
-    omega arith
+before-most links place before is held =
+    beside-most links links.prev.items place before is held is.prev_length
+    (λ k at. prev-holds (λ p. p ≤ links.max) links.next.items links.prev.items links.max (places_of links) links.max k
+    place at is.linked (omega arith) (places-most links is))
 
 pub after-most : (links : Inside) (place after : ℕ) → IsLinked links → Contains (places_of links) place
     → after ≡ get_or links.next.items place after → after ≤ links.max
-after-most links place after is held read =
-    let at = contained-at (places_of links) place held in
-    let inside = contained-below links place is held in
-    let same = read-link links.next.items place after (omega (arith, is.next_length)) read in
-    let most =
-    next-holds (λ p. p ≤ links.max) links.next.items links.prev.items links.max (places_of links) links.max at.0 place
-    at.1 is.linked
-    (each-weaker (λ p. p < links.max) (λ p. p ≤ links.max) (places_of links) (λ p less. omega arith)
-    (places-below links is))
-    (omega arith) in
-    omega arith
+after-most links place after is held =
+    beside-most links links.next.items place after is held is.next_length
+    (λ k at. next-holds (λ p. p ≤ links.max) links.next.items links.prev.items links.max (places_of links) links.max k
+    place at is.linked (places-most links is) (omega arith))
 
 pub last-most : (links : Inside) (before : ℕ) → IsLinked links → before ≡ get_or links.prev.items links.max before
     → before ≤ links.max
@@ -96,10 +105,19 @@ last-most links before is read =
     let same = read-link links.prev.items links.max before (omega (arith, is.prev_length)) read in
     let most =
     last-holds (λ p. p ≤ links.max) links.next.items links.prev.items links.max (places_of links) links.max is.linked
-    (omega arith)
-    (each-weaker (λ p. p < links.max) (λ p. p ≤ links.max) (places_of links) (λ p less. omega arith)
-    (places-below links is)) in
+    (omega arith) (places-most links is) in
     omega arith
+
+-- so both have links
+pub before-linked : (links : Inside) (place before : ℕ) → IsLinked links → Contains (places_of links) place
+    → before ≡ get_or links.prev.items place before → before < length links.next.items
+before-linked links place before is held read =
+    omega (arith, before-most links place before is held read, is.next_length)
+
+pub after-linked : (links : Inside) (place after : ℕ) → IsLinked links → Contains (places_of links) place
+    → after ≡ get_or links.next.items place after → after < length links.prev.items
+after-linked links place after is held read =
+    omega (arith, after-most links place after is held read, is.prev_length)
 
 pub last-is : (links : Inside) (x : ℕ) (o : Option ℕ) → IsLinked links → x ≡ get_or links.prev.items links.max x
     → o ≡ unless_end links.max x → o ≡ slice_get (places_of links) (length (places_of links) - 1)
@@ -112,56 +130,32 @@ pub last-below : (links : Inside) (x : ℕ) (o : Option ℕ) → IsLinked links 
     → o ≡ unless_end links.max x → IfSome o (λ q. q < links.max)
 last-below links x o is read e = unless_end-below links.max x o e (last-most links x is read)
 
-pub next-is :
-    (links : Inside) (place x : ℕ) (o : Option ℕ)
-    → IsLinked links
-    → Contains (places_of links) place
-    → x ≡ get_or links.next.items place x
-    → o ≡ unless_end links.max x
-    → (k : ℕ) → slice_get (places_of links) k ≡ Some place → o ≡ slice_get (places_of links) (k + 1)
-next-is links place x o is held read e k at =
-    let inside = contained-below links place is held in
-    e
-    ∙ ap (unless_end links.max) (read-link links.next.items place x (omega (arith, is.next_length)) read)
-    ∙ next-at links.next.items links.prev.items links.max (places_of links) links.max k place at is.linked
-    (places-below links is)
-    ∙ ap (slice_get (places_of links)) (sym (add-one k))
+-- what is answered of a place of the list, by what is read there
+module _ (links : Inside) (place x : ℕ) (o : Option ℕ) (is : IsLinked links) (held : Contains (places_of links) place)
+    (e : o ≡ unless_end links.max x) where
+  pub next-is : x ≡ get_or links.next.items place x → IsNext (places_of links) place o
+  next-is read k at =
+      e ∙ ap (unless_end links.max) (read-at links links.next.items place x is held is.next_length read)
+      ∙ next-at links.next.items links.prev.items links.max (places_of links) links.max k place at is.linked
+      (places-below links is)
+      ∙ ap (slice_get (places_of links)) (sym (add-one k))
 
-pub next-below : (links : Inside) (place x : ℕ) (o : Option ℕ) → IsLinked links → Contains (places_of links) place
-    → x ≡ get_or links.next.items place x → o ≡ unless_end links.max x → IfSome o (λ q. q < links.max)
-next-below links place x o is held read e = unless_end-below links.max x o e (after-most links place x is held read)
+  pub next-below : x ≡ get_or links.next.items place x → IfSome o (λ q. q < links.max)
+  next-below read = unless_end-below links.max x o e (after-most links place x is held read)
 
-pub prev-is :
-    (links : Inside) (place x : ℕ) (o : Option ℕ)
-    → IsLinked links
-    → Contains (places_of links) place
-    → x ≡ get_or links.prev.items place x
-    → o ≡ unless_end links.max x
-    → (k : ℕ) → slice_get (places_of links) (k + 1) ≡ Some place → o ≡ slice_get (places_of links) k
-prev-is links place x o is held read e k at =
-    let inside = contained-below links place is held in
-    e
-    ∙ ap (unless_end links.max) (read-link links.prev.items place x (omega (arith, is.prev_length)) read)
-    ∙ prev-at links.next.items links.prev.items links.max (places_of links) links.max k place
-    (ap (slice_get (places_of links)) (sym (add-one k)) ∙ at) is.linked (places-below links is)
+  pub prev-is : x ≡ get_or links.prev.items place x → IsPrevious (places_of links) place o
+  prev-is read k at =
+      e ∙ ap (unless_end links.max) (read-at links links.prev.items place x is held is.prev_length read)
+      ∙ prev-at links.next.items links.prev.items links.max (places_of links) links.max k place
+      (ap (slice_get (places_of links)) (sym (add-one k)) ∙ at) is.linked (places-below links is)
 
-pub prev-is_front :
-    (links : Inside) (place x : ℕ) (o : Option ℕ)
-    → IsLinked links
-    → Contains (places_of links) place
-    → x ≡ get_or links.prev.items place x
-    → o ≡ unless_end links.max x
-    → slice_get (places_of links) 0 ≡ Some place
-    → o ≡ None
-prev-is_front links place x o is held read e at =
-    let inside = contained-below links place is held in
-    e
-    ∙ ap (unless_end links.max) (read-link links.prev.items place x (omega (arith, is.prev_length)) read)
-    ∙ prev-front links.next.items links.prev.items (places_of links) links.max place at is.linked
+  pub prev-is_front : x ≡ get_or links.prev.items place x → slice_get (places_of links) 0 ≡ Some place → o ≡ None
+  prev-is_front read at =
+      e ∙ ap (unless_end links.max) (read-at links links.prev.items place x is held is.prev_length read)
+      ∙ prev-front links.next.items links.prev.items (places_of links) links.max place at is.linked
 
-pub prev-below : (links : Inside) (place x : ℕ) (o : Option ℕ) → IsLinked links → Contains (places_of links) place
-    → x ≡ get_or links.prev.items place x → o ≡ unless_end links.max x → IfSome o (λ q. q < links.max)
-prev-below links place x o is held read e = unless_end-below links.max x o e (before-most links place x is held read)
+  pub prev-below : x ≡ get_or links.prev.items place x → IfSome o (λ q. q < links.max)
+  prev-below read = unless_end-below links.max x o e (before-most links place x is held read)
 
 -- ---- after a call
 

@@ -222,3 +222,22 @@ pub among_same : {T : Type 0} (earlier : List SnapEntry) (earlier_loads : List T
 among_same {T} earlier earlier_loads entries loads same same_loads =
     subst (λ (es : List SnapEntry). AreAmong es earlier_loads entries loads) same
     (subst (λ (ls : List T). AreAmong entries ls entries loads) same_loads (among-itself entries loads))
+
+-- what stands beside a place that goes stands there still
+pub left-before : (places new : List ℕ) (k before : ℕ) → 0 < k → new ≡ remove places k
+    → slice_get places (k - 1) ≡ Some before → slice_get new (k - 1) ≡ Some before
+left-before places new k before some is at =
+    ap (λ (ps : List ℕ). slice_get ps (k - 1)) is ∙ get-remove_below places k (k - 1) (omega arith) ∙ at
+
+pub left-behind : (places new : List ℕ) (k after : ℕ) → new ≡ remove places k → slice_get places (k + 1) ≡ Some after
+    → slice_get new k ≡ Some after
+left-behind places new k after is at =
+    let follows : suc k ≡ k + 1 = omega arith in
+    ap (λ (ps : List ℕ). slice_get ps k) is ∙ get-remove_above places k k (omega arith)
+    ∙ ap (slice_get places) follows
+    ∙ at
+
+-- and what is left is in order
+pub sound-left : (entries new : List SnapEntry) (k : ℕ) → k < length entries → new ≡ remove entries k → AreSound entries
+    → AreSound new
+sound-left entries new k inside is sound = subst AreSound (sym is) (sound-remove entries k inside sound)

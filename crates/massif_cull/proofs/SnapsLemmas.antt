@@ -19,6 +19,7 @@ use Rattle.massif_cull.specs.Linked.{IsOutside, AreDifferent, AreBelow}
 use Rattle.massif_cull.specs.LinksState.{LinksState}
 use Rattle.massif_cull.specs.Held.{held_at, held_in, snaps_of, AreHeld, ended}
 use Rattle.massif_cull.specs.Removed.{HoldsAt}
+use Rattle.massif_cull.specs.SnapsState.{ArePlaced}
 use Rattle.massif_cull.proofs.Linking.{apart-at, each-append, each-at, each-from, each-remove, different-pop}
 use Rattle.massif_cull.proofs.HeldLemmas.{AreEnded, AreTaken, some-of, length-held, held-at, held-push, taken-push}
 use Rattle.massif_cull.proofs.HeldLemmas.{held-remove, taken-remove, held-ended, taken-ended}
@@ -61,6 +62,14 @@ pub loads-beside : {T : Type 0} (snaps : Inside T) → AreHeld snaps
 loads-beside snaps is =
     length-map (held_in snaps.slots.items snaps.links.places) (λ held. held.load)
     ∙ length-held snaps.slots.items snaps.links.places is.each
+
+-- and the places are different ones below the maximum
+pub are-placed : {T : Type 0} (snaps : Inside T) → AreHeld snaps → ArePlaced (snaps_of snaps)
+are-placed snaps is = record {
+  beside = sym (entries-beside snaps is);
+  different = is.different;
+  below = is.below;
+}
 
 -- where there is no last place there is no entry
 pub none-left : {T : Type 0} (snaps : Inside T) → AreHeld snaps

@@ -1,10 +1,8 @@
 -- What an offer leaves, by what it is taken as.
-use Rattle.std.proofs.Common.{◌≡◌, ℕ, ◌+◌, ◌<◌, ◌%◌, Bool, false, cond, List, [], ◌∷◌, ◌++◌, length, map, sym, ap}
-use Rattle.std.proofs.Common.{subst, ◌∙◌, arith}
+use Rattle.std.proofs.Common.{◌≡◌, ℕ, ◌<◌, ◌%◌, Bool, false, cond, List, length, refl, sym, ap, subst, ◌∙◌, arith}
 use Rattle.std.specs.Prelude.{nat_le}
 use Rattle.std.proofs.Math.Nat.{mod-eq_of_lt}
 use Rattle.std.proofs.lemmas.Bool.Decides.{nat_tests}
-use Rattle.massif_cull.specs.declared.snapshot.Kind.TheVariants as kind
 use Rattle.massif_cull.specs.declared.snapshot.SnapEntry.{SnapEntry}
 use Rattle.massif_cull.specs.declared.snapshot.Offer.{Offer}
 use Rattle.massif_cull.specs.declared.snapshot.Taken.{Taken}
@@ -12,14 +10,18 @@ use Rattle.massif_cull.specs.declared.snapshot.Taken.TheVariants.{No, Normal, De
 use Rattle.massif_cull.specs.Among.{AreAmong}
 use Rattle.massif_cull.specs.ArrayState.{ArrayState, IsSound}
 use Rattle.massif_cull.specs.Culling.{cull}
-use Rattle.massif_cull.specs.Entries.{end_peak}
 use Rattle.massif_cull.specs.Interval.{least_interval}
 use Rattle.massif_cull.specs.Kept.{Settings, Kept}
 use Rattle.massif_cull.specs.TakenAs.{taken_as}
 use Rattle.massif_cull.specs.Step.{with_entry, with_offer, bounded, entry_of, step}
 use Rattle.massif_cull.specs.Loads.{with_load, loads_cull, loads_bounded, loads_step}
+use Rattle.massif_cull.specs.Origins.{kind_of}
 use Rattle.massif_cull.specs.StandsFor.{held_of}
+use Rattle.massif_cull.specs.TakenEntry.{TakesEntry, with_peak}
+use Rattle.massif_cull.specs.TakesOffer.{TakesOffer}
+use Rattle.massif_cull.proofs.Origins.{come-from}
 use Rattle.massif_cull.proofs.Removals.{among-itself}
+use Rattle.massif_cull.proofs.Standing.{stands-push}
 
 -- a step by what the offer is taken as
 pub step-as : (settings : Settings) (kept : Kept) (offer : Offer) (taken : Taken) → taken ≡ taken_as settings kept offer
@@ -80,87 +82,47 @@ none-among {T} entries loads offer load taken none =
     subst (λ (t : Taken). AreAmong (with_entry entries offer t) (with_load loads load t) entries loads) (sym none)
     (among-itself entries loads)
 
--- an offer taken as a normal snapshot
-pub normal-kept :
-    (settings : Settings) (kept new : Kept) (offer : Offer) (entry : SnapEntry)
-    → Normal ≡ taken_as settings kept offer
-    → entry ≡ entry_of offer kind.Normal
-    → new
-    ≡ held_of settings
-    (bounded settings (record kept { entries = kept.entries ++ entry ∷ []; normals = kept.normals + 1 }))
-    → new ≡ held_of settings (step settings kept offer)
-normal-kept settings kept new offer entry as_taken made after =
+-- a peak leaves the number of normal offers, which is below that of a turn
+pub peak-held : (settings : Settings) (kept new : Kept) (entry : SnapEntry) → kept.normals < settings.detailed_freq
+    → new ≡ bounded settings (with_peak kept entry) → new ≡ held_of settings (bounded settings (with_peak kept entry))
+peak-held settings kept new entry below after =
     after
-    ∙ ap (λ (e : SnapEntry). held_of settings
-    (bounded settings (record kept { entries = kept.entries ++ e ∷ []; normals = kept.normals + 1 }))) made
-    ∙ step-as settings kept offer Normal as_taken
-
--- an offer taken as a detailed snapshot
-pub detailed-kept :
-    (settings : Settings) (kept new : Kept) (offer : Offer) (entry : SnapEntry)
-    → Detailed ≡ taken_as settings kept offer
-    → entry ≡ entry_of offer kind.Detailed
-    → new
-    ≡ held_of settings
-    (bounded settings (record kept { entries = kept.entries ++ entry ∷ []; normals = kept.normals + 1 }))
-    → new ≡ held_of settings (step settings kept offer)
-detailed-kept settings kept new offer entry as_taken made after =
-    after
-    ∙ ap (λ (e : SnapEntry). held_of settings
-    (bounded settings (record kept { entries = kept.entries ++ e ∷ []; normals = kept.normals + 1 }))) made
-    ∙ step-as settings kept offer Detailed as_taken
-
--- an offer taken as the peak
-pub peak-kept :
-    (settings : Settings) (kept new : Kept) (offer : Offer) (entry : SnapEntry)
-    → kept.normals < settings.detailed_freq
-    → Peak ≡ taken_as settings kept offer
-    → entry ≡ entry_of offer kind.Peak
-    → new
-    ≡ bounded settings (record kept { entries = map end_peak kept.entries ++ entry ∷ []; last_peak = entry.total })
-    → new ≡ held_of settings (step settings kept offer)
-peak-kept settings kept new offer entry below as_taken made after =
-    let peak =
-    λ (e : SnapEntry). bounded settings
-    (record kept { entries = map end_peak kept.entries ++ e ∷ []; last_peak = e.total }) in
-    after
-    ∙ ap peak made
-    ∙ ap (λ (n : ℕ). let k : Kept = record (peak (entry_of offer kind.Peak)) { normals = n } in k)
+    ∙ ap (λ (n : ℕ). let k : Kept = record (bounded settings (with_peak kept entry)) { normals = n } in k)
     (sym (mod-eq_of_lt below))
-    ∙ step-as settings kept offer Peak as_taken
 
--- the loads of an offer taken as a normal snapshot
-pub normal-loads :
-    {T : Type 0} (settings : Settings) (kept : Kept) (offer : Offer) (entry : SnapEntry) (loads new : List T) (load : T)
-    → Normal ≡ taken_as settings kept offer
-    → entry ≡ entry_of offer kind.Normal
-    → new ≡ loads_bounded settings.max (kept.entries ++ entry ∷ []) (loads ++ load ∷ [])
-    → new ≡ loads_step settings kept offer loads load
-normal-loads settings kept offer entry loads new load as_taken made after =
-    after
-    ∙ ap (λ (e : SnapEntry). loads_bounded settings.max (kept.entries ++ e ∷ []) (loads ++ load ∷ [])) made
-    ∙ loads-as settings kept offer loads load Normal as_taken
+-- the entries that are kept with an offer, whatever it is taken as
+entries-with : (kept : Kept) (offer : Offer) (taken : Taken)
+    → (with_offer kept offer taken).entries ≡ with_entry kept.entries offer taken
+entries-with kept offer No = refl
+entries-with kept offer Normal = refl
+entries-with kept offer Detailed = refl
+entries-with kept offer Peak = refl
 
--- of a detailed one
-pub detailed-loads :
-    {T : Type 0} (settings : Settings) (kept : Kept) (offer : Offer) (entry : SnapEntry) (loads new : List T) (load : T)
-    → Detailed ≡ taken_as settings kept offer
-    → entry ≡ entry_of offer kind.Detailed
-    → new ≡ loads_bounded settings.max (kept.entries ++ entry ∷ []) (loads ++ load ∷ [])
-    → new ≡ loads_step settings kept offer loads load
-detailed-loads settings kept offer entry loads new load as_taken made after =
-    after
-    ∙ ap (λ (e : SnapEntry). loads_bounded settings.max (kept.entries ++ e ∷ []) (loads ++ load ∷ [])) made
-    ∙ loads-as settings kept offer loads load Detailed as_taken
-
--- of the peak
-pub peak-loads :
-    {T : Type 0} (settings : Settings) (kept : Kept) (offer : Offer) (entry : SnapEntry) (loads new : List T) (load : T)
-    → Peak ≡ taken_as settings kept offer
-    → entry ≡ entry_of offer kind.Peak
-    → new ≡ loads_bounded settings.max (map end_peak kept.entries ++ entry ∷ []) (loads ++ load ∷ [])
-    → new ≡ loads_step settings kept offer loads load
-peak-loads settings kept offer entry loads new load as_taken made after =
-    after
-    ∙ ap (λ (e : SnapEntry). loads_bounded settings.max (map end_peak kept.entries ++ e ∷ []) (loads ++ load ∷ [])) made
-    ∙ loads-as settings kept offer loads load Peak as_taken
+-- what an array makes of an offer, by the entry that it takes
+pub takes-offer :
+    {T : Type 0} (old new : ArrayState T) (offer : Offer) (load : T) (judged taken : Taken)
+    → IsSound old
+    → judged ≡ taken
+    → judged ≡ taken_as old.settings old.kept offer
+    → new.kept ≡ held_of old.settings (bounded old.settings (with_offer old.kept offer taken))
+    → TakesEntry old new (entry_of offer (kind_of taken)) (with_entry old.kept.entries offer taken)
+    (with_load old.loads load taken)
+    → TakesOffer old new offer load judged
+takes-offer {T} old new offer load judged taken sound is as_judged after takes =
+    let as_taken = sym is ∙ as_judged in
+    let kept = after ∙ step-as old.settings old.kept offer taken as_taken in
+    subst (λ (t : Taken). TakesOffer old new offer load t) (sym is) (record {
+      stands = λ offers stands. stands-push old new offers offer takes.settings kept stands;
+      settings = takes.settings;
+      kept = kept;
+      loads =
+          takes.loads_left
+          ∙ ap (λ (entries : List SnapEntry). loads_bounded old.settings.max entries (with_load old.loads load taken))
+          (sym (entries-with old.kept offer taken))
+          ∙ loads-as old.settings old.kept offer old.loads load taken as_taken;
+      origins =
+          come-from old.kept.entries old.loads offer load taken new.kept.entries new.loads sound.loads_beside
+          takes.among;
+      last = omega (arith, takes.last);
+      below_max = takes.below_max;
+    })

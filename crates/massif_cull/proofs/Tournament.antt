@@ -1,6 +1,6 @@
 -- The first of keys: what one choice of two says, that the top of a tournament is the first of all,
 -- and how one is kept.
-use Rattle.std.proofs.Common.{◌≡◌, ◌⊎◌, ℕ, ◌+◌, ◌-◌, ◌/◌, ◌<◌, ◌≤◌, zero, suc, true, List, [], ◌∷◌, length, drop, map}
+use Rattle.std.proofs.Common.{◌≡◌, ◌≢◌, ◌⊎◌, ℕ, ◌+◌, ◌-◌, ◌/◌, ◌<◌, ◌≤◌, zero, suc, true, List, [], ◌∷◌, length, drop, map}
 use Rattle.std.proofs.Common.{set, get_or, inl, inr, refl, sym, ap, subst, ◌∙◌, arith}
 use Rattle.std.proofs.lemmas.Bool.{cases_eq, cases_lt, lt-ltb, le-ltb}
 use Rattle.std.proofs.lemmas.List.{drop-set-add, get_or_default, get_or-set_same, get_or-set_other, get_or-drop}
@@ -163,17 +163,40 @@ top-first gaps is ready some =
 
 -- ---- one key changes
 
+-- the node has the first of the keys of the two below it
+abbrev HasFirst : List Key → ℕ → Type 0
+HasFirst nodes n = key_at nodes n ≡ first_of (key_at nodes (n + n)) (key_at nodes (n + n + 1))
+
+-- so it has where another key changes, which is neither its own nor one of these
+first-stays : (nodes : List Key) (n m : ℕ) (key : Key) → m ≢ n → m + m ≢ n → m + m + 1 ≢ n → HasFirst nodes m
+    → HasFirst (set nodes n key) m
+first-stays nodes n m key apart left right is =
+    rw (
+      get_or-set_other nodes n m key no_key apart,
+      get_or-set_other nodes n (m + m) key no_key left,
+      get_or-set_other nodes n (m + m + 1) key no_key right,
+    )
+    is
+
+-- and where it gets that key
+first-made : (nodes : List Key) (n m : ℕ) (key : Key) → m ≡ n → 0 < n → n + n + 1 < length nodes
+    → key ≡ first_of (key_at nodes (n + n)) (key_at nodes (n + n + 1)) → HasFirst (set nodes n key) m
+first-made nodes n m key same above within is =
+    subst (λ (k : ℕ). HasFirst (set nodes n key) k) (sym same)
+    (rw (
+      get_or-set_same nodes n key no_key (omega arith),
+      get_or-set_other nodes n (n + n) key no_key (λ e. omega arith),
+      get_or-set_other nodes n (n + n + 1) key no_key (λ e. omega arith),
+    )
+    is)
+
 -- a key that has no node below it: the one above it is open
 pub climb-start : (nodes : List Key) (n : ℕ) (key : Key) → length nodes ≤ n + n → AreFirsts nodes 0
     → AreFirsts (set nodes n key) (n / 2)
 climb-start nodes n key low firsts = record {
   each = λ m some inside apart.
       let long = length-set nodes n key in
-      rw (
-        get_or-set_other nodes n m key no_key (λ e. omega arith),
-        get_or-set_other nodes n (m + m) key no_key (λ e. apart (omega arith)),
-        get_or-set_other nodes n (m + m + 1) key no_key (λ e. apart (omega arith)),
-      )
+      first-stays nodes n m key (λ e. omega arith) (λ e. apart (omega arith)) (λ e. apart (omega arith))
       (firsts.each m some (omega arith) (λ e. omega arith));
 }
 
@@ -189,23 +212,9 @@ climb-more nodes n key above within is firsts = record {
   each = λ m some inside apart.
       let long = length-set nodes n key in
       elim (cases_eq m n) [
-        | inl same ↦
-            subst
-            (λ (k : ℕ). key_at (set nodes n key) k
-            ≡ first_of (key_at (set nodes n key) (k + k)) (key_at (set nodes n key) (k + k + 1)))
-            (sym same)
-            (rw (
-              get_or-set_same nodes n key no_key (omega arith),
-              get_or-set_other nodes n (n + n) key no_key (λ e. omega arith),
-              get_or-set_other nodes n (n + n + 1) key no_key (λ e. omega arith),
-            )
-            is)
+        | inl same ↦ first-made nodes n m key same above within is
         | inr other ↦
-            rw (
-              get_or-set_other nodes n m key no_key other,
-              get_or-set_other nodes n (m + m) key no_key (λ e. apart (omega arith)),
-              get_or-set_other nodes n (m + m + 1) key no_key (λ e. apart (omega arith)),
-            )
+            first-stays nodes n m key other (λ e. apart (omega arith)) (λ e. apart (omega arith))
             (firsts.each m some (omega arith) other)
       ];
 }
@@ -216,8 +225,7 @@ pub climb-same : (nodes : List Key) (n : ℕ)
     → AreFirsts nodes 0
 climb-same nodes n is firsts = record {
   each = λ m some inside apart. elim (cases_eq m n) [
-    | inl same ↦ subst (λ (k : ℕ). key_at nodes k ≡ first_of (key_at nodes (k + k)) (key_at nodes (k + k + 1)))
-        (sym same) is
+    | inl same ↦ subst (HasFirst nodes) (sym same) is
     | inr other ↦ firsts.each m some inside other
   ];
 }
@@ -271,23 +279,9 @@ found-more nodes n key above within is found = record {
   each = λ m high inside.
       let long = length-set nodes n key in
       elim (cases_eq m n) [
-        | inl same ↦
-            subst
-            (λ (k : ℕ). key_at (set nodes n key) k
-            ≡ first_of (key_at (set nodes n key) (k + k)) (key_at (set nodes n key) (k + k + 1)))
-            (sym same)
-            (rw (
-              get_or-set_same nodes n key no_key (omega arith),
-              get_or-set_other nodes n (n + n) key no_key (λ e. omega arith),
-              get_or-set_other nodes n (n + n + 1) key no_key (λ e. omega arith),
-            )
-            is)
+        | inl same ↦ first-made nodes n m key same above within is
         | inr other ↦
-            rw (
-              get_or-set_other nodes n m key no_key other,
-              get_or-set_other nodes n (m + m) key no_key (λ e. omega arith),
-              get_or-set_other nodes n (m + m + 1) key no_key (λ e. omega arith),
-            )
+            first-stays nodes n m key other (λ e. omega arith) (λ e. omega arith)
             (found.each m (omega arith) (omega arith))
       ];
 }

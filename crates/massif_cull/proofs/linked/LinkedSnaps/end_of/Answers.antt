@@ -1,7 +1,7 @@
-use Rattle.std.proofs.Common.{◌≡◌, ◌+◌, ◌-◌, ℕ, true, false, length, ap, sym, ◌∙◌, arith}
+use Rattle.std.proofs.Common.{◌≡◌, ◌-◌, true, false, length, ap, sym, ◌∙◌, arith}
 use Rattle.massif_cull.specs.Ends.{count_may_go}
 use Rattle.massif_cull.specs.Entries.{is_peak_at}
-use Rattle.massif_cull.proofs.EndLemmas.{count_may_go-goes, count_may_go-stays}
+use Rattle.massif_cull.proofs.EndLemmas.{count_may_go-next}
 use Rattle.massif_cull.proofs.Places.{may_go-inside, may_go-peak, peak-of}
 use Rattle.massif_cull.proofs.linked.LinkedSnaps.end_of.Goals as goal
 
@@ -29,7 +29,12 @@ back-preserved-then-is_peak_entry g c =
       some = omega arith;
       inside = (let inside = so_far.inside in omega arith);
       most = so_far.most;
-      found = count_may_go-stays entries _ _ index so_far.inside (may_go-peak entries _ peak) ∙ so_far.found;
+      found =
+          omega (
+            arith,
+            count_may_go-next entries _ _ false index so_far.inside (may_go-peak entries _ peak),
+            so_far.found,
+          );
     }
 
 pub back-preserved : goal.back-preserved
@@ -46,8 +51,12 @@ back-preserved g c =
       inside = omega arith;
       most = omega arith;
       found =
-          count_may_go-goes entries _ _ index so_far.inside (may_go-inside entries _ (omega arith) (omega arith) normal)
-          ∙ ap (λ (n : ℕ). n + 1) so_far.found;
+          omega (
+            arith,
+            count_may_go-next entries _ _ true index so_far.inside
+                (may_go-inside entries _ (omega arith) (omega arith) normal),
+            so_far.found,
+          );
     }
 
 pub returns-clause-count : goal.returns-clause-count

@@ -1,5 +1,5 @@
 use Rattle.std.proofs.Common.{◌∙◌, sym}
-use Rattle.massif_cull.proofs.SnapsLemmas.{entries-beside, loads-beside}
+use Rattle.massif_cull.proofs.SnapsLemmas.{are-placed, entries-beside, loads-beside}
 use Rattle.massif_cull.proofs.linked.LinkedSnaps.len.Goals as goal
 
 pub returns-clause-entries : goal.returns-clause-entries
@@ -11,10 +11,4 @@ returns-clause-loads g c =
     rw (← c.self.view_is) (c.len.ensures.length ∙ sym (loads-beside c.self.inside c.self.invariant))
 
 pub returns-clause-placed : goal.returns-clause-placed
-returns-clause-placed g c =
-    rw (← c.self.view_is)
-    (record {
-      beside = sym (entries-beside c.self.inside c.self.invariant);
-      different = c.self.invariant.different;
-      below = c.self.invariant.below;
-    })
+returns-clause-placed g c = rw (← c.self.view_is) (are-placed c.self.inside c.self.invariant)

@@ -1,5 +1,4 @@
-use Rattle.std.proofs.Common.{sym}
-use Rattle.massif_cull.proofs.SnapsLemmas.{entries-beside}
+use Rattle.massif_cull.proofs.SnapsLemmas.{are-placed}
 use Rattle.massif_cull.proofs.linked.LinkedSnaps.place_after.Goals as goal
 
 pub returns-clause-place : goal.returns-clause-place
@@ -8,10 +7,4 @@ returns-clause-place g c k at =
     rw (← c.self.view_is) (c.next.ensures.place k here)
 
 pub returns-clause-placed : goal.returns-clause-placed
-returns-clause-placed g c =
-    rw (← c.self.view_is)
-    (record {
-      beside = sym (entries-beside c.self.inside c.self.invariant);
-      different = c.self.invariant.different;
-      below = c.self.invariant.below;
-    })
+returns-clause-placed g c = rw (← c.self.view_is) (are-placed c.self.inside c.self.invariant)

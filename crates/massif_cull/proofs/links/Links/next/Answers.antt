@@ -11,10 +11,10 @@ pub returns-clause-place : goal.returns-clause-place
 returns-clause-place c =
     let held = rw (← c.self.view_is) at c.requires in
     rw (← c.self.view_is)
-    (next-is c.self.inside c.args.place _ _ c.self.invariant held c.index.ensures c.unless_end.ensures)
+    (next-is c.self.inside c.args.place _ _ c.self.invariant held c.unless_end.ensures c.index.ensures)
 
 pub returns-clause-below : goal.returns-clause-below
 returns-clause-below c =
     let held = rw (← c.self.view_is) at c.requires in
     rw (← c.self.view_is)
-    (next-below c.self.inside c.args.place _ _ c.self.invariant held c.index.ensures c.unless_end.ensures)
+    (next-below c.self.inside c.args.place _ _ c.self.invariant held c.unless_end.ensures c.index.ensures)

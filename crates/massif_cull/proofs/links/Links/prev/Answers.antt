@@ -11,16 +11,16 @@ pub returns-clause-place : goal.returns-clause-place
 returns-clause-place c =
     let held = rw (← c.self.view_is) at c.requires in
     rw (← c.self.view_is)
-    (prev-is c.self.inside c.args.place _ _ c.self.invariant held c.index.ensures c.unless_end.ensures)
+    (prev-is c.self.inside c.args.place _ _ c.self.invariant held c.unless_end.ensures c.index.ensures)
 
 pub returns-clause-below : goal.returns-clause-below
 returns-clause-below c =
     let held = rw (← c.self.view_is) at c.requires in
     rw (← c.self.view_is)
-    (prev-below c.self.inside c.args.place _ _ c.self.invariant held c.index.ensures c.unless_end.ensures)
+    (prev-below c.self.inside c.args.place _ _ c.self.invariant held c.unless_end.ensures c.index.ensures)
 
 pub returns-clause-front : goal.returns-clause-front
 returns-clause-front c =
     let held = rw (← c.self.view_is) at c.requires in
     rw (← c.self.view_is)
-    (prev-is_front c.self.inside c.args.place _ _ c.self.invariant held c.index.ensures c.unless_end.ensures)
+    (prev-is_front c.self.inside c.args.place _ _ c.self.invariant held c.unless_end.ensures c.index.ensures)

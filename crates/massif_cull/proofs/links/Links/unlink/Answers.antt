@@ -1,8 +1,8 @@
-use Rattle.std.proofs.Common.{◌∙◌, ap, refl, arith}
+use Rattle.std.proofs.Common.{◌∙◌, ap, refl}
 use Rattle.std.specs.Prelude.{remove}
 use Rattle.massif_cull.specs.declared.links.Links.TheInside.{Inside}
 use Rattle.massif_cull.specs.LinksState.{LinksState}
-use Rattle.massif_cull.proofs.LinksLemmas.{IsUnlinked, before-most, after-most, unlinked-places, unlinked-stays}
+use Rattle.massif_cull.proofs.LinksLemmas.{IsUnlinked, before-linked, after-linked, unlinked-places, unlinked-stays}
 use Rattle.massif_cull.proofs.LinksLemmas.{places-different}
 use Rattle.massif_cull.proofs.links.Links.unlink.Goals as goal
 use Rattle.massif_cull.proofs.links.Links.unlink.Goals.{After-push_reserved}
@@ -29,20 +29,12 @@ done c = record {
 pub link-requires-clause-before : goal.link-requires-clause-before
 link-requires-clause-before c =
     let held = rw (← c.self.view_is) at c.requires in
-    omega (
-      arith,
-      before-most c.self.inside c.args.place _ c.self.invariant held c.index-before.ensures,
-      c.self.invariant.next_length,
-    )
+    before-linked c.self.inside c.args.place _ c.self.invariant held c.index-before.ensures
 
 pub link-requires-clause-after : goal.link-requires-clause-after
 link-requires-clause-after c =
     let held = rw (← c.self.view_is) at c.requires in
-    omega (
-      arith,
-      after-most c.self.inside c.args.place _ c.self.invariant held c.index-after.ensures,
-      c.self.invariant.prev_length,
-    )
+    after-linked c.self.inside c.args.place _ c.self.invariant held c.index-after.ensures
 
 pub invariant_of-self : goal.invariant_of-self
 unfolding after
