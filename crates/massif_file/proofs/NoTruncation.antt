@@ -31,25 +31,11 @@ go_on_never : {A : Type 0} (next : A → Progress) (r : Result A ProfileFault) �
 go_on_never next (Ok x) h k e = k x e
 go_on_never next (Err fault) h k e = h (let same : fault ≡ Truncated = cc in ap Err same)
 
--- a missing value is another fault: in the header
-header_never : {A : Type 0} (o : Option A) → or_fault BadHeader o ≡ Err Truncated → ⊥
-header_never None e = absurd cc
-header_never (Some x) e = absurd cc
-
--- in a snapshot
-snapshot_never : {A : Type 0} (o : Option A) → or_fault BadSnapshot o ≡ Err Truncated → ⊥
-snapshot_never None e = absurd cc
-snapshot_never (Some x) e = absurd cc
-
--- in a tree
-tree_never : {A : Type 0} (o : Option A) → or_fault BadTree o ≡ Err Truncated → ⊥
-tree_never None e = absurd cc
-tree_never (Some x) e = absurd cc
-
--- at a number
-number_never : {A : Type 0} (o : Option A) → or_fault BadNumber o ≡ Err Truncated → ⊥
-number_never None e = absurd cc
-number_never (Some x) e = absurd cc
+-- a missing value is another fault
+other_never : {A : Type 0} (fault : ProfileFault) (o : Option A) → (fault ≡ Truncated → ⊥)
+    → or_fault fault o ≡ Err Truncated → ⊥
+other_never fault None other e = other cc
+other_never fault (Some x) other e = absurd cc
 
 -- nor is it that of a key
 key_never : (key line : List ℕ) → key_number key line ≡ Err Truncated → ⊥
@@ -58,7 +44,7 @@ key_never key line = by (value_after key line)
   where
     by : (o : Option (List ℕ)) → number_in o ≡ Err Truncated → ⊥
     by None e = absurd cc
-    by (Some value) e = number_never (number_of max_number value) e
+    by (Some value) e = other_never BadNumber (number_of max_number value) (λ f. absurd cc) e
 
 -- the test of the times
 order_never : (t : Bool) (p : Progress) → Never p → Never (cond t (refused_for WrongOrder) p)
@@ -93,7 +79,7 @@ command_never : (desc line : List ℕ) (o : Option (List ℕ)) → Never (after_
 command_never desc line (Some value) e = absurd cc
 command_never desc line None e =
     go_on_never (at_unit desc) (or_fault BadHeader (header_value (codes "cmd:") line))
-    (header_never (header_value (codes "cmd:") line)) (λ x f. absurd cc) e
+    (other_never BadHeader (header_value (codes "cmd:") line) (λ f. absurd cc)) (λ x f. absurd cc) e
 
 -- a line that is not skipped
 taken_never : (p : Progress) (line : List ℕ) → fault_in p ≡ None → Never (taken p line)
@@ -102,7 +88,7 @@ taken_never (in_descriptions desc) line t = command_never desc line (header_valu
 taken_never (at_unit desc cmd) line t =
     go_on_never (λ unit. at_snapshot (record { desc = desc; cmd = cmd; unit = unit; snaps = [] }))
     (or_fault BadHeader (unit_in (header_value (codes "time_unit:") line)))
-    (header_never (unit_in (header_value (codes "time_unit:") line))) (λ x e. absurd cc)
+    (other_never BadHeader (unit_in (header_value (codes "time_unit:") line)) (λ f. absurd cc)) (λ x e. absurd cc)
 taken_never (at_snapshot profile) line t =
     go_on_never (λ n. cond (eqb n (length profile.snaps)) (at_time profile) (refused_for WrongOrder))
     (key_number (codes "snapshot=") line) (key_never (codes "snapshot=") line)
@@ -125,12 +111,13 @@ taken_never (at_mark profile time heap extra stacks) line t =
     (λ mark. after_mark profile
     (record { time = time; heap = heap; extra = extra; stacks = stacks; mark = mark; tree = [] }) mark)
     (or_fault BadSnapshot (mark_in (value_after (codes "heap_tree=") line)))
-    (snapshot_never (mark_in (value_after (codes "heap_tree=") line))) (mark_never profile time heap extra stacks)
+    (other_never BadSnapshot (mark_in (value_after (codes "heap_tree=") line)) (λ f. absurd cc))
+    (mark_never profile time heap extra stacks)
 taken_never (in_tree profile snap to_come) line t =
     deep_never (ltb 257 (length to_come))
     (go_on (after_tree_line profile snap to_come) (or_fault BadTree (tree_line_of line)))
     (go_on_never (after_tree_line profile snap to_come) (or_fault BadTree (tree_line_of line))
-    (tree_never (tree_line_of line))
+    (other_never BadTree (tree_line_of line) (λ f. absurd cc))
     (λ node. levels_never profile (with_line snap node) (after_line node.children to_come)))
 taken_never (refused_for fault) line t = absurd cc
 

@@ -4,37 +4,25 @@ use Rattle.std.proofs.Common.{Result, Ok, Err, refl, sym, ap, ◌∙◌, arith}
 use Rattle.std.specs.Prelude.{IfOk, IfErr}
 use Rattle.std.proofs.lemmas.List.{append-nil}
 use Rattle.massif_file.specs.declared.fault.ProfileFault.{ProfileFault}
-use Rattle.massif_file.specs.declared.fault.ProfileFault.TheVariants.{BadHeader, BadSnapshot, BadNumber, WrongOrder}
-use Rattle.massif_file.specs.declared.fault.ProfileFault.TheVariants.{BadTree, Truncated, NoMemory}
+use Rattle.massif_file.specs.declared.fault.ProfileFault.TheVariants.{NoMemory}
 use Rattle.massif_file.specs.declared.profile.Profile.{Profile}
 use Rattle.massif_file.specs.Blanks.{is_skipped}
 use Rattle.massif_file.specs.ProfileOf.{at_line, unless_refused, read_from, profile_of}
 use Rattle.massif_file.specs.StandsFor.{StandsFor}
-use Rattle.massif_file.specs.Progress.{Progress, in_descriptions, at_unit, at_snapshot, at_time, at_heap, at_extra}
-use Rattle.massif_file.specs.Progress.{at_stacks, at_mark, in_tree, refused_for, taken, after, after_all, progress_of}
+use Rattle.massif_file.specs.Progress.{Progress, in_descriptions, refused_for, taken, after, after_all, progress_of}
 use Rattle.massif_file.specs.Progress.{fault_in, end_of}
 use Rattle.massif_file.specs.UnlessNoMemory.{UnlessNoMemory}
 
 -- a claim that holds, holds unless memory is wanting
 pub unless_claim : {claim : Type 0} (fault : ProfileFault) → claim → UnlessNoMemory fault claim
 unless_claim NoMemory h = tt
-unless_claim BadHeader h = h
-unless_claim BadSnapshot h = h
-unless_claim BadNumber h = h
-unless_claim WrongOrder h = h
-unless_claim BadTree h = h
-unless_claim Truncated h = h
+unless_claim _ h = h
 
 -- what follows from a claim holds too
 pub unless_weaker : {claim weaker : Type 0} (fault : ProfileFault) → (claim → weaker) → UnlessNoMemory fault claim
     → UnlessNoMemory fault weaker
 unless_weaker NoMemory f h = tt
-unless_weaker BadHeader f h = f h
-unless_weaker BadSnapshot f h = f h
-unless_weaker BadNumber f h = f h
-unless_weaker WrongOrder f h = f h
-unless_weaker BadTree f h = f h
-unless_weaker Truncated f h = f h
+unless_weaker _ f h = f h
 
 -- a refused line stays refused
 pub after-refused : (fault : ProfileFault) (line : List ℕ) → after (refused_for fault) line ≡ refused_for fault
@@ -54,16 +42,8 @@ after_all-refused fault (line ∷ lines) =
 
 -- where nothing is refused after the lines, nothing was before them
 pub taken_before : (p : Progress) (lines : List (List ℕ)) → fault_in (after_all p lines) ≡ None → fault_in p ≡ None
-taken_before (in_descriptions desc) lines h = refl
-taken_before (at_unit desc cmd) lines h = refl
-taken_before (at_snapshot profile) lines h = refl
-taken_before (at_time profile) lines h = refl
-taken_before (at_heap profile time) lines h = refl
-taken_before (at_extra profile time heap) lines h = refl
-taken_before (at_stacks profile time heap extra) lines h = refl
-taken_before (at_mark profile time heap extra stacks) lines h = refl
-taken_before (in_tree profile snap to_come) lines h = refl
 taken_before (refused_for fault) lines h = ap fault_in (sym (after_all-refused fault lines)) ∙ h
+taken_before _ lines h = refl
 
 -- lines after lines
 pub after_all-append : (p : Progress) (xs ys : List (List ℕ)) → after_all p (xs ++ ys) ≡ after_all (after_all p xs) ys

@@ -1,7 +1,7 @@
 -- A line that the reader refuses is one that can't follow the lines before it, for that fault.
 use Rattle.std.proofs.Common.{◌≡◌, ℕ, Bool, true, false, cond, eqb, ltb, List, [], ◌∷◌, length, Option, Some, None}
 use Rattle.std.proofs.Common.{Result, Ok, Err, refl, sym, ap, subst, ◌∙◌, arith, inl, inr, eq-eqb, ltb-true}
-use Rattle.std.specs.Prelude.{codes}
+use Rattle.std.specs.Prelude.{codes, slice_get}
 use Rattle.std.specs.Option.{option_map}
 use Rattle.std.proofs.lemmas.Bool.{ltb-false}
 use Rattle.std.proofs.lemmas.List.{append-nil}
@@ -26,7 +26,7 @@ use Rattle.massif_file.specs.Progress.{at_stacks, at_mark, in_tree, refused_for,
 use Rattle.massif_file.specs.Progress.{after_mark, after_levels, after_tree_line, taken, fault_in, end_of}
 use Rattle.massif_file.specs.LastTime.{last_time}
 use Rattle.massif_file.specs.Descriptions.{Describe}
-use Rattle.massif_file.specs.Refuses.{AwaitsNumber, AwaitsMark, Refuses, EndsEarly}
+use Rattle.massif_file.specs.Refuses.{AwaitsNumber, AwaitsMark, Refuses, EndsEarly, number_keys}
 use Rattle.massif_file.specs.Refuses as early
 use Rattle.massif_file.specs.TreeLineOf.{tree_line_of}
 use Rattle.massif_file.proofs.Sound.{Stands}
@@ -128,6 +128,12 @@ module _ (front : List (List ℕ)) (line : List ℕ) (fault : ProfileFault) wher
   by_number : (key : List ℕ) → AwaitsNumber front key → key_number key line ≡ Err fault → Refuses front line fault
   unfolding key_number
   by_number key a e = by_key key (value_after key line) a refl e
+
+  -- so many lines into a snapshot
+  awaits : (key : List ℕ) (profile : Profile) (snap : Snap) (count : ℕ) → InSnapshot front profile snap count
+      → slice_get number_keys count ≡ Some key → AwaitsNumber front key
+  awaits key profile snap count begun key_is =
+      record { profile = profile; snap = snap; count = count; begun = begun; key_is = key_is }
 
   -- at a number
   by_step : (key : List ℕ) (next : ℕ → Progress) (r : Result ℕ ProfileFault) → AwaitsNumber front key
@@ -235,55 +241,25 @@ module _ (front : List (List ℕ)) (line : List ℕ) (fault : ProfileFault) wher
   refused_is (at_unit desc cmd) h t e = by_unit desc cmd (unit_in (header_value (codes "time_unit:") line)) h refl e
   refused_is (at_snapshot profile) h t e =
       by_step (codes "snapshot=") _ (key_number (codes "snapshot=") line)
-      (record {
-        profile = profile;
-        snap = begun_snap 0 0 0 0;
-        count = 0;
-        begun = none_read front profile (begun_snap 0 0 0 0) h;
-        key_is = refl;
-      })
+      (awaits _ profile (begun_snap 0 0 0 0) 0 (none_read front profile (begun_snap 0 0 0 0) h) refl)
       refl e
       (λ n k f. by_place profile n (eqb n (length profile.snaps)) h k refl f)
   refused_is (at_time profile) h t e =
       by_step (codes "time=") _ (key_number (codes "time=") line)
-      (record {
-        profile = profile;
-        snap = begun_snap 0 0 0 0;
-        count = 1;
-        begun = one_read front profile (begun_snap 0 0 0 0) h;
-        key_is = refl;
-      })
+      (awaits _ profile (begun_snap 0 0 0 0) 1 (one_read front profile (begun_snap 0 0 0 0) h) refl)
       refl e
       (λ time k f. by_order profile time (ltb time (last_time profile.snaps)) h k refl f)
   refused_is (at_heap profile time) h t e =
       by_step (codes "mem_heap_B=") (at_extra profile time) (key_number (codes "mem_heap_B=") line)
-      (record {
-        profile = profile;
-        snap = begun_snap time 0 0 0;
-        count = 2;
-        begun = two_read front profile time h;
-        key_is = refl;
-      })
+      (awaits _ profile (begun_snap time 0 0 0) 2 (two_read front profile time h) refl)
       refl e (λ n k f. absurd cc)
   refused_is (at_extra profile time heap) h t e =
       by_step (codes "mem_heap_extra_B=") (at_stacks profile time heap) (key_number (codes "mem_heap_extra_B=") line)
-      (record {
-        profile = profile;
-        snap = begun_snap time heap 0 0;
-        count = 3;
-        begun = three_read front profile time heap h;
-        key_is = refl;
-      })
+      (awaits _ profile (begun_snap time heap 0 0) 3 (three_read front profile time heap h) refl)
       refl e (λ n k f. absurd cc)
   refused_is (at_stacks profile time heap extra) h t e =
       by_step (codes "mem_stacks_B=") (at_mark profile time heap extra) (key_number (codes "mem_stacks_B=") line)
-      (record {
-        profile = profile;
-        snap = begun_snap time heap extra 0;
-        count = 4;
-        begun = four_read front profile time heap extra h;
-        key_is = refl;
-      })
+      (awaits _ profile (begun_snap time heap extra 0) 4 (four_read front profile time heap extra h) refl)
       refl e (λ n k f. absurd cc)
   refused_is (at_mark profile time heap extra stacks) h t e =
       by_mark profile time heap extra stacks (mark_in (value_after (codes "heap_tree=") line)) h refl e

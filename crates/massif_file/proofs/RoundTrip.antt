@@ -175,8 +175,7 @@ module _ (d : Decimals) where
       → mark_in (value_after (codes "heap_tree=") (codes "heap_tree=" ++ mark_name mark)) ≡ Some mark
   unfolding mark_of
   mark_again Empty = refl
-  mark_again Detailed = refl
-  mark_again Peak = refl
+  mark_again _ = refl
 
   -- and the lines of a snapshot
   snap_again : (n : ℕ) (snap : Snap) → n ≤ 2 ^ 62 → IsWritableSnap snap
@@ -228,9 +227,7 @@ module _ (d : Decimals) where
       → unit_in (header_value (codes "time_unit:") (codes "time_unit: " ++ unit_name unit)) ≡ Some unit
   unfolding unit_of
   unit_again Instructions = refl
-  unit_again Milliseconds = refl
-  unit_again Bytes = refl
-  unit_again Events = refl
+  unit_again _ = refl
 
   -- and all lines of a profile
   pub reads_again : (profile : Profile) → IsWritable profile → is_profile (massif_lines profile) profile

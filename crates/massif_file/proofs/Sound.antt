@@ -305,6 +305,20 @@ module _ (lines : List (List ℕ)) (line : List ℕ) where
   marked profile time heap extra stacks mark =
       record { time = time; heap = heap; extra = extra; stacks = stacks; mark = mark; tree = [] }
 
+  -- at a mark with a tree, whose root is to come
+  rooted : (profile : Profile) (time heap extra stacks : ℕ) (mark : HeapTree) → HasTree mark
+      → Stands lines (at_mark profile time heap extra stacks)
+      → mark_in (value_after (codes "heap_tree=") line) ≡ Some mark
+      → Stands all (in_tree profile (marked profile time heap extra stacks mark) (1 ∷ []))
+  unfolding all marked
+  rooted profile time heap extra stacks mark has h e = (
+    Begins-push lines profile.desc (items_of profile) (five_items profile time heap extra stacks) line
+        (mark_item mark) h.0 e,
+    h.1,
+    h.2,
+    record { marked = has; leads = refl; more = omega arith },
+  )
+
   -- at its mark
   step_mark : (profile : Profile) (time heap extra stacks : ℕ) (o : Option HeapTree)
       → Stands lines (at_mark profile time heap extra stacks) → mark_in (value_after (codes "heap_tree=") line) ≡ o
@@ -319,20 +333,8 @@ module _ (lines : List (List ℕ)) (line : List ℕ) where
       (Begins-push lines profile.desc (items_of profile) (five_items profile time heap extra stacks) line
       (mark_item Empty) h.0 e)
       h.1 h.2 refl
-  step_mark profile time heap extra stacks (Some Detailed) h e = (
-    Begins-push lines profile.desc (items_of profile) (five_items profile time heap extra stacks) line
-        (mark_item Detailed) h.0 e,
-    h.1,
-    h.2,
-    record { marked = tt; leads = refl; more = omega arith },
-  )
-  step_mark profile time heap extra stacks (Some Peak) h e = (
-    Begins-push lines profile.desc (items_of profile) (five_items profile time heap extra stacks) line
-        (mark_item Peak) h.0 e,
-    h.1,
-    h.2,
-    record { marked = tt; leads = refl; more = omega arith },
-  )
+  step_mark profile time heap extra stacks (Some Detailed) h e = rooted profile time heap extra stacks Detailed tt h e
+  step_mark profile time heap extra stacks (Some Peak) h e = rooted profile time heap extra stacks Peak tt h e
 
   -- the snapshot with one line more in its tree
   grown : (profile : Profile) (snap : Snap) (to_come : List ℕ) (node : TreeLine)

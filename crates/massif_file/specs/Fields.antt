@@ -1,5 +1,6 @@
 -- What single lines say: the value of a key, a number, a unit, a mark, for private clauses.
-use Rattle.std.specs.Prelude.{ℕ, ◌==◌, nat_le, if◌then◌else◌, List, [], ◌∷◌, Option, Some, None, Result, Ok, Err, codes}
+use Rattle.std.specs.Prelude.{ℕ, ◌==◌, nat_le, if◌then◌else◌, List, [], ◌∷◌, find, Option, Some, None, Result, Ok, Err}
+use Rattle.std.specs.Prelude.{codes}
 use Rattle.std.specs.Option.{option_map}
 use Rattle.std.specs.Str.{bytes_eq}
 use Rattle.hp_num.specs.ParsedDec.{parsed_dec}
@@ -45,33 +46,27 @@ number_in (Some value) = or_fault BadNumber (number_of max_number value)
 unfoldable pub key_number : List ℕ → List ℕ → Result ℕ ProfileFault
 key_number key line = number_in (value_after key line)
 
--- the time unit of this name
-unfoldable pub unit_of : List ℕ → Option TimeUnit
-unit_of name =
-    if bytes_eq name (codes "i") then Some Instructions else
-    if bytes_eq name (codes "ms") then Some Milliseconds else
-    if bytes_eq name (codes "B") then Some Bytes else
-    if bytes_eq name (codes "e") then Some Events else None
-
--- its name
+-- the name of a time unit
 abbrev pub unit_name : TimeUnit → List ℕ
 unit_name Instructions = codes "i"
 unit_name Milliseconds = codes "ms"
 unit_name Bytes = codes "B"
 unit_name Events = codes "e"
 
--- the mark of this name
-unfoldable pub mark_of : List ℕ → Option HeapTree
-mark_of name =
-    if bytes_eq name (codes "empty") then Some Empty else
-    if bytes_eq name (codes "detailed") then Some Detailed else
-    if bytes_eq name (codes "peak") then Some Peak else None
+-- the time unit of this name
+unfoldable pub unit_of : List ℕ → Option TimeUnit
+unit_of name = find (λ unit. bytes_eq name (unit_name unit))
+    (Instructions ∷ Milliseconds ∷ Bytes ∷ Events ∷ [])
 
--- its name
+-- the name of a mark
 abbrev pub mark_name : HeapTree → List ℕ
 mark_name Empty = codes "empty"
 mark_name Detailed = codes "detailed"
 mark_name Peak = codes "peak"
+
+-- the mark of this name
+unfoldable pub mark_of : List ℕ → Option HeapTree
+mark_of name = find (λ mark. bytes_eq name (mark_name mark)) (Empty ∷ Detailed ∷ Peak ∷ [])
 
 -- the unit and the mark that a value names
 abbrev pub unit_in : Option (List ℕ) → Option TimeUnit
