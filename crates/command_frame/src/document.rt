@@ -20,12 +20,13 @@ pub trait DocumentReport {
     /// What it makes of the bytes of a file.
     ghost verdict: { Self → List ℕ → Verdict };
 
-    /// The whole output, or the first fault of the bytes. `NoMemory` where memory is wanting.
-    fn report(&self, alloc: Global, bytes: &[u8]) -> Result<Vec<u8>, LineRefusal<Self::Fault>>
-        requires { length bytes.now ≤ 2 ^ 34 }
-        ensures output { IfOk result (λ output. verdict self.now bytes.now ≡ Writes output.items) }
+    /// The whole output, or the first fault of the bytes, which may be let go before the output is made. `NoMemory` where memory is
+    /// wanting.
+    fn report(&self, alloc: Global, bytes: Bytes) -> Result<Vec<u8>, LineRefusal<Self::Fault>>
+        requires { length bytes ≤ 2 ^ 34 }
+        ensures output { IfOk result (λ output. verdict self.now bytes ≡ Writes output.items) }
         ensures fault { IfErr result
-            (λ refusal. Refuses Self.Fault.told refusal (verdict self.now bytes.now)) };
+            (λ refusal. Refuses Self.Fault.told refusal (verdict self.now bytes)) };
 }
 
 /// The file has more bytes than the limit.
@@ -97,7 +98,7 @@ pub fn run_document<D: DocumentReport, S: Store>(
         Ok(bytes) => bytes,
         Err(halt) => return Err(halt),
     };
-    match document.report(context.alloc, bytes.bytes()) {
+    match document.report(context.alloc, bytes) {
         Ok(output) => Ok(output),
         Err(LineRefusal::Fault(fault)) => Err(Halt::at_file(
             context.alloc,

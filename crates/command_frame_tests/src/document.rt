@@ -2,6 +2,7 @@
 use crate::echo::{Bad, Echo};
 use command_frame::{DocumentReport, LineRefusal};
 use hp_num::put_bytes;
+use hp_outside::Bytes;
 use std::alloc::Global;
 
 impl DocumentReport for Echo {
@@ -11,12 +12,12 @@ impl DocumentReport for Echo {
 
     ghost verdict = { λ _. echo_verdict };
 
-    fn report(&self, alloc: Global, bytes: &[u8]) -> Result<Vec<u8>, LineRefusal<Bad>> {
-        if bytes == b"bad".as_slice() {
+    fn report(&self, alloc: Global, bytes: Bytes) -> Result<Vec<u8>, LineRefusal<Bad>> {
+        if bytes.bytes() == b"bad".as_slice() {
             return Err(LineRefusal::Fault(Bad));
         }
         let mut output = Vec::new(alloc);
-        put_bytes(&mut output, bytes)?;
+        put_bytes(&mut output, bytes.bytes())?;
         Ok(output)
     }
 }

@@ -12,7 +12,7 @@ ghost use Rattle.profile_reports.specs.DocumentFault.{told};
 use crate::document_fault::DocumentFault;
 use command_frame::{DocumentReport, Halt, LineRefusal, RunContext, run_document};
 use dhat_json::{Dhat, DhatFault, read_profile};
-use hp_outside::Store;
+use hp_outside::{Bytes, Store};
 use std::alloc::Global;
 
 /// What makes the output of a DHAT profile.
@@ -39,8 +39,10 @@ impl<R: DhatFileReport> DocumentReport for DhatFile<R> {
 
     ghost verdict = { λ file. dhat_file_verdict (R.verdict file.report) };
 
-    fn report(&self, alloc: Global, bytes: &[u8]) -> Result<Vec<u8>, LineRefusal<DocumentFault>> {
-        match read_profile(alloc, bytes) {
+    fn report(&self, alloc: Global, bytes: Bytes) -> Result<Vec<u8>, LineRefusal<DocumentFault>> {
+        let read = read_profile(alloc, bytes.bytes());
+        drop(bytes);
+        match read {
             Ok(dhat) => self.report.report(alloc, &dhat),
             Err(fault) => Err(document_refusal(fault)),
         }

@@ -14,8 +14,7 @@ pub returns-in-Ok-report : goal.returns-in-Ok-report
 returns-in-Ok-report g c =
     λ out. runs_to_judgement _ _ _ _ _ _ _ _ c.in-Ok.ensures.read
     (inl (ap (verdict_answer (texts_of c.args.context.now.texts) c.args.name.now) (sym
-    (subst (λ bytes. g.D.DocumentReport.verdict c.args.document.now bytes ≡ Writes c.in-Ok-report.output.items)
-    c.bytes-2.ensures c.in-Ok-report.ensures.output))))
+    c.in-Ok-report.ensures.output)))
     (λ four. omega (arith, four))
 
 pub returns-in-Err-Fault : goal.returns-in-Err-Fault
@@ -24,12 +23,11 @@ returns-in-Err-Fault g c = λ out.
     let verdict = g.D.DocumentReport.verdict c.args.document.now in
     runs_to_judgement _ _ _ _ _ _ _ _ c.in-Ok.ensures.read
     (judges_fault (texts_of c.args.context.now.texts) c.args.name.now _ (told c.in-Err-Fault.fault) c.at_file.result
-    (subst (λ bytes. verdict bytes ≡ Refuses (told c.in-Err-Fault.fault)) c.bytes-2.ensures
-    (subst (λ refusal. taker.Refuses told refusal (verdict c.bytes-2.result.now)) c.in-Err-Fault.field-0-is
-    c.in-Err-Fault.ensures.fault))
+    (subst (λ refusal. taker.Refuses told refusal (verdict c.in-Ok.bytes)) c.in-Err-Fault.field-0-is
+    c.in-Err-Fault.ensures.fault)
     c.at_file.ensures.answer c.at_file.ensures.memory) c.at_file.ensures.write
 
-pub returns : goal.returns
-returns g c =
+pub returns-in-Err-NoMemory : goal.returns-in-Err-NoMemory
+returns-in-Err-NoMemory g c =
     λ out. runs_to_judgement _ _ _ _ _ _ _ _ c.in-Ok.ensures.read
     (inr (ap (halt_answer (texts_of c.args.context.now.texts)) c.no_memory.ensures)) (not_four _ c.no_memory.ensures)
