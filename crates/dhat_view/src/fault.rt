@@ -3,7 +3,7 @@ ghost use Rattle.std.specs.Prelude.{◌≡◌};
 ghost use Rattle.dhat_view.specs.declared.fault.ViewFault.TheVariants.{NoMemory as OutOfMemory};
 ghost use Rattle.dhat_view.specs.FaultText.{fault_text};
 
-use std::alloc::{AllocError, AllocFailed};
+use dhat_json::DhatFault;
 use thiserror::Error;
 
 /// Why a profile has no view.
@@ -19,14 +19,14 @@ pub enum ViewFault {
 }
 
 impl ViewFault {
-    /// What the fault is called, in few words.
+    /// What the fault is called, in few words: want of memory as where a profile is read.
     pub fn text(self) -> &'static str
         ensures { result.now ≡ fault_text self }
     {
         match self {
             ViewFault::NoFigures => "no figures",
             ViewFault::TooLarge => "figures too large",
-            ViewFault::NoMemory => "out of memory",
+            ViewFault::NoMemory => DhatFault::NoMemory.text(),
         }
     }
 }
