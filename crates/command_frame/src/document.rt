@@ -100,12 +100,6 @@ pub fn run_document<D: DocumentReport, S: Store>(
     };
     match document.report(context.alloc, bytes) {
         Ok(output) => Ok(output),
-        Err(LineRefusal::Fault(fault)) => Err(Halt::at_file(
-            context.alloc,
-            &context.texts,
-            name,
-            &fault,
-        )),
-        Err(LineRefusal::NoMemory) => Err(Halt::no_memory()),
+        Err(refusal) => Err(context.refused(name, refusal)),
     }
 }

@@ -1,7 +1,11 @@
 //! Opening named files and reading them by lines, to a message where that ends before the last line.
-ghost use Rattle.std.specs.Prelude.{◌-◌, ◌^◌, ◌<◌};
+ghost use Rattle.std.specs.Prelude.{◌≡◌, ◌≢◌, ◌⊎◌, ◌-◌, ◌^◌, ◌<◌};
+ghost use Rattle.command_frame.specs.Answer.{memory_answer, verdict_answer};
+ghost use Rattle.command_frame.specs.Halts.{halt_answer, status_code};
 ghost use Rattle.command_frame.specs.HaltsWith.{HaltsUnopened, StopsWith};
 ghost use Rattle.command_frame.specs.NewTaker.{IsNewTaker, SameTaker};
+ghost use Rattle.command_frame.specs.Report.{Verdict};
+ghost use Rattle.command_frame.specs.Taker.{Refuses};
 ghost use Rattle.command_frame.specs.TakesFile.{HasLimits, KeepsLimits, MayReadLines, RanToEnd, TakesFile};
 ghost use Rattle.command_frame.specs.RunsTo.{Reads};
 ghost use Rattle.command_frame.specs.Texts.{texts_of};
@@ -10,7 +14,7 @@ use crate::context::RunContext;
 use crate::fault::Fault;
 use crate::halt::Halt;
 use crate::lines::{LinesStop, pass_on, read_through_buffer};
-use crate::taker::LineTaker;
+use crate::taker::{LineRefusal, LineTaker};
 use hp_outside::{Failed, LineFault, LineReader, OpenFault, Sink, Store};
 use std::alloc::Global;
 
@@ -44,6 +48,20 @@ impl RunContext {
         ensures { HaltsUnopened self.now.texts name.now fault result }
     {
         Halt::unreadable(self.alloc, &self.texts, name, fault.text())
+    }
+
+    /// The halt where what was read of a file is refused.
+    pub(crate) fn refused<F: Fault>(&self, name: &str, refusal: LineRefusal<F>) -> Halt
+        ensures judges { (verdict : Verdict) → Refuses F.told refusal verdict
+            → (halt_answer (texts_of self.now.texts) result
+            ≡ verdict_answer (texts_of self.now.texts) name.now verdict)
+            ⊎ (halt_answer (texts_of self.now.texts) result ≡ memory_answer (texts_of self.now.texts)) }
+        ensures write { status_code result.status ≢ 4 }
+    {
+        match refusal {
+            LineRefusal::Fault(fault) => Halt::at_file(self.alloc, &self.texts, name, &fault),
+            LineRefusal::NoMemory => Halt::no_memory(),
+        }
     }
 
     /// The halt where not all lines of a file were taken.

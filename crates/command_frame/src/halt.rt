@@ -1,5 +1,5 @@
 //! Why a run ends before its output is whole: a message and a status that are ready to be delivered.
-ghost use Rattle.std.specs.Prelude.{◌≡◌, ◌++◌, codes, IfOk};
+ghost use Rattle.std.specs.Prelude.{◌≡◌, ◌++◌, codes, IfOk, OnOk};
 ghost use Rattle.command_frame.specs.Halts.{message_bytes, status_code};
 ghost use Rattle.command_frame.specs.HaltsWith.{HaltsAtFile, HaltsAtLine, HaltsUnreadable, SaysOfFile, SaysOfLine};
 ghost use Rattle.command_frame.specs.Texts.{texts_of};
@@ -214,10 +214,18 @@ fn file_message<F: Fault>(
         (λ message. SaysOfFile texts.now file.now (F.told fault.now).text message) }
 {
     let mut message = begin(alloc, texts, file)?;
-    put_bytes(&mut message, b": ")?;
-    fault.put_text(&mut message)?;
-    put_bytes(&mut message, b"\n")?;
+    put_fault(&mut message, fault)?;
     Ok(message)
+}
+
+/// Appends a fault behind the place that has it.
+fn put_fault<F: Fault>(message: &mut Vec<u8>, fault: &F) -> Result<(), NoMemory>
+    ensures { OnOk result (message.new.items
+        ≡ message.old.items ++ (codes ": " ++ ((F.told fault.now).text ++ codes "\n"))) }
+{
+    put_bytes(message, b": ")?;
+    fault.put_text(message)?;
+    put_bytes(message, b"\n")
 }
 
 fn line_message<F: Fault>(
@@ -233,8 +241,6 @@ fn line_message<F: Fault>(
     let mut message = begin(alloc, texts, file)?;
     put_bytes(&mut message, b":")?;
     put_dec(&mut message, number)?;
-    put_bytes(&mut message, b": ")?;
-    fault.put_text(&mut message)?;
-    put_bytes(&mut message, b"\n")?;
+    put_fault(&mut message, fault)?;
     Ok(message)
 }

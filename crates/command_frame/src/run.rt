@@ -8,7 +8,6 @@ use crate::context::RunContext;
 use crate::files::read_named_file;
 use crate::halt::Halt;
 use crate::report::LineReport;
-use crate::taker::LineRefusal;
 use hp_outside::{LineReader, Sink, Store};
 
 /// Takes all lines of the named file, and makes the rest of the output of them.
@@ -56,12 +55,6 @@ pub fn run_last_file<T: LineReport, S: Store, O: Sink>(
     }
     match taker.finish(context.alloc) {
         Ok(rest) => Ok(rest),
-        Err(LineRefusal::Fault(fault)) => Err(Halt::at_file(
-            context.alloc,
-            &context.texts,
-            name,
-            &fault,
-        )),
-        Err(LineRefusal::NoMemory) => Err(Halt::no_memory()),
+        Err(refusal) => Err(context.refused(name, refusal)),
     }
 }
