@@ -31,13 +31,17 @@ object_ahead depth ts h =
     ap (converted of_json) (value-begin_object depth ts h)
     ∙ object_converted (members (value (depth - 1)) (length ts) ts)
 
-pub behind_array : (depth : ℕ) (ts : List Token) → 0 < depth
-    → behind (value_ahead depth (begin_array ∷ ts)) ≡ behind (items_ahead (depth - 1) ts)
-behind_array depth ts h = ap behind (array_ahead depth ts h) ∙ left-parse_map array (items_ahead (depth - 1) ts)
+pub behind_array : (depth : ℕ) (now ts : List Token) → now ≡ begin_array ∷ ts → 0 < depth
+    → behind (value_ahead depth now) ≡ behind (items_ahead (depth - 1) ts)
+behind_array depth now ts is h =
+    ap behind (ap (value_ahead depth) is ∙ array_ahead depth ts h)
+    ∙ left-parse_map array (items_ahead (depth - 1) ts)
 
-pub behind_object : (depth : ℕ) (ts : List Token) → 0 < depth
-    → behind (value_ahead depth (begin_object ∷ ts)) ≡ behind (members_ahead (depth - 1) ts)
-behind_object depth ts h = ap behind (object_ahead depth ts h) ∙ left-parse_map object (members_ahead (depth - 1) ts)
+pub behind_object : (depth : ℕ) (now ts : List Token) → now ≡ begin_object ∷ ts → 0 < depth
+    → behind (value_ahead depth now) ≡ behind (members_ahead (depth - 1) ts)
+behind_object depth now ts is h =
+    ap behind (ap (value_ahead depth) is ∙ object_ahead depth ts h)
+    ∙ left-parse_map object (members_ahead (depth - 1) ts)
 
 pub nothing_ahead : (depth : ℕ) → value_ahead depth [] ≡ None
 nothing_ahead depth = ap (converted of_json) (value_is depth [])
@@ -73,24 +77,26 @@ ahead_is depth ts r j has e is =
     split true = refl
     split false = refl
 
+-- a value of parts that were passed over is an empty one
+hollow_parts : {A : Type 0} (of : A → Data) (empty : Data) → ((parts : A) → hollow (of parts) ≡ empty)
+    → (o : Option (A × List Token)) (r : List Token) → behind o ≡ Some r
+    → parse_map hollow (parse_map of o) ≡ Some (empty, r)
+hollow_parts of empty is None r e = absurd cc
+hollow_parts of empty is (Some p) r e =
+    rw (is p.0) (ap (λ (rest : Option (List Token)). option_map (λ s. (empty, s)) rest) e)
+
 -- a list and an object are empty ones, once their parts were passed over
 pub hollow_array : (depth : ℕ) (ts r : List Token) → 0 < depth → behind (items_ahead (depth - 1) ts) ≡ Some r
     → parse_map hollow (value_ahead depth (begin_array ∷ ts)) ≡ Some (array no_items, r)
-hollow_array depth ts r h e = ap (parse_map hollow) (array_ahead depth ts h) ∙ at (items_ahead (depth - 1) ts) e
-  where
-    at : (o : Option (Items × List Token)) → behind o ≡ Some r
-        → parse_map hollow (parse_map array o) ≡ Some (array no_items, r)
-    at None none = absurd cc
-    at (Some p) is = ap (λ (rest : Option (List Token)). option_map (λ s. (array no_items, s)) rest) is
+hollow_array depth ts r h e =
+    ap (parse_map hollow) (array_ahead depth ts h)
+    ∙ hollow_parts array (array no_items) (λ ds. refl) (items_ahead (depth - 1) ts) r e
 
 pub hollow_object : (depth : ℕ) (ts r : List Token) → 0 < depth → behind (members_ahead (depth - 1) ts) ≡ Some r
     → parse_map hollow (value_ahead depth (begin_object ∷ ts)) ≡ Some (object no_members, r)
-hollow_object depth ts r h e = ap (parse_map hollow) (object_ahead depth ts h) ∙ at (members_ahead (depth - 1) ts) e
-  where
-    at : (o : Option (Members × List Token)) → behind o ≡ Some r
-        → parse_map hollow (parse_map object o) ≡ Some (object no_members, r)
-    at None none = absurd cc
-    at (Some p) is = ap (λ (rest : Option (List Token)). option_map (λ s. (object no_members, s)) rest) is
+hollow_object depth ts r h e =
+    ap (parse_map hollow) (object_ahead depth ts h)
+    ∙ hollow_parts object (object no_members) (λ ms. refl) (members_ahead (depth - 1) ts) r e
 
 pub no_array : (depth : ℕ) (ts : List Token) → 0 < depth → behind (items_ahead (depth - 1) ts) ≡ None
     → value_ahead depth (begin_array ∷ ts) ≡ None

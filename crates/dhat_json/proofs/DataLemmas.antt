@@ -12,7 +12,7 @@ use Rattle.json.specs.Find as find
 use Rattle.json.specs.Find.{later_or}
 use Rattle.json.specs.Value.{value_view, items_view}
 use Rattle.json.specs.declared.value.Value.{Value}
-use Rattle.serde_json.specs.Data.{Num, Data, number, array, object, Items, item, Members, no_members, put}
+use Rattle.serde_json.specs.Data.{Num, Data, null, number, array, object, Items, item, Members, no_members, put}
 use Rattle.serde_json.specs.Find.{get, get_member, as_str, as_bool}
 use Rattle.serde_json.specs.Read.{of_json, of_items, of_members, number_of, read}
 use Rattle.serde_json.proofs.Views.{get_member-put, get_member-put_other}
@@ -102,17 +102,16 @@ no_earlier : (o : Option Data) → or_before o None ≡ o
 no_earlier None = refl
 no_earlier (Some d) = refl
 
+-- what is asked of a number, in range or not
+at_number : {A : Type 0} (ask : Data → A) (o : Option Num) (x : A) → ask null ≡ x → ((n : Num) → ask (number n) ≡ x)
+    → ask (number_data o) ≡ x
+at_number ask None x none some = none
+at_number ask (Some n) x none some = some n
+
 pub get_data : (k : List ℕ) (j : json.Json) → get k (json_data j) ≡ option_map json_data (find.get k j)
-get_data k json.null = refl
-get_data k (json.boolean b) = refl
-get_data k (json.number s) = number_at (number_of s)
-  where
-    number_at : (o : Option Num) → get k (number_data o) ≡ None
-    number_at None = refl
-    number_at (Some n) = refl
-get_data k (json.string s) = refl
-get_data k (json.array js) = refl
+get_data k (json.number s) = at_number (get k) (number_of s) None refl (λ n. refl)
 get_data k (json.object ms) = member_found k ms no_members ∙ no_earlier (option_map json_data (find.get_member k ms))
+get_data _ _ = refl
 
 pub data_mapped : (o : Option (Bor (Value Global)))
     → option_map (λ v. data_of v.now) o ≡ option_map json_data (option_map (λ v. value_view v.now) o)
@@ -120,28 +119,12 @@ data_mapped None = refl
 data_mapped (Some v) = refl
 
 pub text_data : (j : json.Json) → as_str (json_data j) ≡ find.as_str j
-text_data json.null = refl
-text_data (json.boolean b) = refl
-text_data (json.number s) = number_at (number_of s)
-  where
-    number_at : (o : Option Num) → as_str (number_data o) ≡ None
-    number_at None = refl
-    number_at (Some n) = refl
-text_data (json.string s) = refl
-text_data (json.array js) = refl
-text_data (json.object ms) = refl
+text_data (json.number s) = at_number as_str (number_of s) None refl (λ n. refl)
+text_data _ = refl
 
 pub flag_data : (j : json.Json) → as_bool (json_data j) ≡ find.as_bool j
-flag_data json.null = refl
-flag_data (json.boolean b) = refl
-flag_data (json.number s) = number_at (number_of s)
-  where
-    number_at : (o : Option Num) → as_bool (number_data o) ≡ None
-    number_at None = refl
-    number_at (Some n) = refl
-flag_data (json.string s) = refl
-flag_data (json.array js) = refl
-flag_data (json.object ms) = refl
+flag_data (json.number s) = at_number as_bool (number_of s) None refl (λ n. refl)
+flag_data _ = refl
 
 pub list_data : {A : Type 0} (values : List (Value A)) → list_of (items_data (items_view values)) ≡ map data_of values
 list_data [] = refl

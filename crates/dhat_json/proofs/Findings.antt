@@ -1,8 +1,8 @@
 -- The first of what checks find.
 use Rattle.std.proofs.Common.{◌≡◌, List, [], ◌∷◌, ◌++◌, Some, None, Result, Ok, Err, refl, subst}
+use Rattle.std.specs.Prelude.{IsErrAnd}
 use Rattle.dhat_json.specs.declared.fault.DhatFault.{DhatFault}
-use Rattle.dhat_json.specs.declared.fault.DhatFault.TheVariants.{NotJson, WrongFileVersion, MissingKey, WrongKind}
-use Rattle.dhat_json.specs.declared.fault.DhatFault.TheVariants.{FrameOutOfTable, TooMany, NoMemory}
+use Rattle.dhat_json.specs.declared.fault.DhatFault.TheVariants.{NoMemory}
 use Rattle.dhat_json.specs.DhatFault.{Finding, first_of}
 use Rattle.dhat_json.specs.Reads.{Reads, UnlessNoMemory}
 
@@ -22,12 +22,15 @@ first_stays (Some first ∷ xs) ys fault found = found
 -- a claim of a fault that follows from another
 pub fault_follows : (P Q : Type 0) (fault : DhatFault) → UnlessNoMemory fault P → (P → Q) → UnlessNoMemory fault Q
 fault_follows P Q NoMemory h f = tt
-fault_follows P Q NotJson h f = f h
-fault_follows P Q WrongFileVersion h f = f h
-fault_follows P Q (MissingKey point key) h f = f h
-fault_follows P Q (WrongKind point key) h f = f h
-fault_follows P Q (FrameOutOfTable point frame) h f = f h
-fault_follows P Q TooMany h f = f h
+fault_follows P Q _ h f = f h
+
+-- a call that passes on the fault of a part, which is the first of its own
+pub passes_on : {A : Type 0} (result : Result A DhatFault) (fault : DhatFault) (finding : Finding) (there : A)
+    (P : Type 0)
+    → IsErrAnd result (λ e. e ≡ fault) → UnlessNoMemory fault P → (P → finding ≡ Some fault)
+    → Reads result finding there
+passes_on (Ok x) fault finding there P is h f = absurd is
+passes_on (Err e) fault finding there P is h f = rw is (fault_follows P (finding ≡ Some fault) fault h f)
 
 pub passed_then : (a : Finding) (xs : List Finding) → a ≡ None → first_of (a ∷ xs) ≡ first_of xs
 passed_then a xs none = rw none refl

@@ -1,5 +1,5 @@
 -- The keys of a profile's value are in order, and it nests four levels deep.
-use Rattle.std.proofs.Common.{◌≡◌, ℕ, suc, List, [], ◌∷◌, map, Less, Option, Some, None, refl}
+use Rattle.std.proofs.Common.{◌≡◌, ℕ, suc, List, [], ◌∷◌, map, Less, Option, Some, None, refl, rules}
 use Rattle.std.specs.Prelude.{codes}
 use Rattle.std.specs.Option.{option_map}
 use Rattle.std.specs.Ordering.{nat_cmp}
@@ -27,71 +27,10 @@ wholes_in n (number ∷ numbers) = (tt, wholes_in n numbers)
 
 parts_in : (n tb tbk : ℕ) (life : Option Life) (access : Option Access) (fs : List ℕ)
     → MembersInOrder (suc n) (point_members (record { tb = tb; tbk = tbk; life = life; access = access; fs = fs }))
-parts_in n tb tbk None None fs = (wholes_in n fs, (refl, (tt, (refl, (tt, (tt, tt))))))
-parts_in n tb tbk None (Some access) fs =
-    (wholes_in n fs, (refl, (tt, (refl, (tt, (refl, (tt, (refl, (tt, (tt, tt))))))))))
-parts_in n tb tbk (Some life) None fs = (
-  tt,
-  (
-    refl,
-    (
-      tt,
-      (
-        refl,
-        (
-          wholes_in n fs,
-          (
-            refl,
-            (tt, (refl, (tt, (refl, (tt, (refl, (tt, (refl, (tt, (refl, (tt, (refl, (tt, (tt, tt)))))))))))))),
-          ),
-        ),
-      ),
-    ),
-  ),
-)
-parts_in n tb tbk (Some life) (Some access) fs = (
-  tt,
-  (
-    refl,
-    (
-      tt,
-      (
-        refl,
-        (
-          wholes_in n fs,
-          (
-            refl,
-            (
-              tt,
-              (
-                refl,
-                (
-                  tt,
-                  (
-                    refl,
-                    (
-                      tt,
-                      (
-                        refl,
-                        (
-                          tt,
-                          (
-                            refl,
-                            (tt, (refl, (tt, (refl, (tt, (refl, (tt, (refl, (tt, (tt, tt)))))))))),
-                          ),
-                        ),
-                      ),
-                    ),
-                  ),
-                ),
-              ),
-            ),
-          ),
-        ),
-      ),
-    ),
-  ),
-)
+parts_in n tb tbk None None fs = search (rules, wholes_in)
+parts_in n tb tbk None (Some access) fs = search (rules, wholes_in)
+parts_in n tb tbk (Some life) None fs = search (rules, wholes_in)
+parts_in n tb tbk (Some life) (Some access) fs = search (rules, wholes_in)
 
 points_in : (n : ℕ) (points : List Point) → ItemsInOrder (suc (suc n)) (items_of (map point_value points))
 points_in n [] = tt

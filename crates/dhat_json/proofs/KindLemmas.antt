@@ -5,10 +5,10 @@ use Rattle.std.specs.Prelude.{IsSome, IfSome, ◌==◌, is_some, unwrap_or}
 use Rattle.std.specs.Option.{option_and_then}
 use Rattle.std.proofs.lemmas.Bool.{eqb-true, ltb-true, lt-ltb}
 use Rattle.std.proofs.lemmas.List.Elements.{All-nil, All-cons, All-head, All-tail}
-use Rattle.serde_json.specs.Data.{Data, null, boolean, number, string, array, object, unsigned, negative, float, Items}
-use Rattle.serde_json.specs.Data.{no_items, item}
+use Rattle.serde_json.specs.Data.{Data, boolean, number, string, array, unsigned, Items, no_items, item}
 use Rattle.serde_json.specs.Find.{as_str, as_bool, as_object, as_array}
 use Rattle.serde_json.specs.View.{items_of}
+use Rattle.dhat_json.specs.declared.fault.DhatFault.{DhatFault}
 use Rattle.dhat_json.specs.declared.fault.DhatFault.TheVariants.{NotJson, WrongFileVersion, WrongKind, FrameOutOfTable}
 use Rattle.dhat_json.specs.declared.key.Key.{Key}
 use Rattle.dhat_json.specs.declared.key.Key.TheVariants.{DhatFileVersion, Ftbl}
@@ -56,75 +56,43 @@ items_of_list (item d ds) = ap (item d) (items_of_list ds)
 
 pub text_stands : (point : Option ℕ) (key : Key) (o : Option Data) → needed_value as_str point key o ≡ None
     → o ≡ Some (string (unwrap_or (option_and_then as_str o) []))
-text_stands point key None e = absurd cc
-text_stands point key (Some null) e = absurd cc
-text_stands point key (Some (boolean b)) e = absurd cc
-text_stands point key (Some (number n)) e = absurd cc
 text_stands point key (Some (string s)) e = refl
-text_stands point key (Some (array ds)) e = absurd cc
-text_stands point key (Some (object ms)) e = absurd cc
+text_stands _ _ _ e = absurd cc
 
 pub flag_stands : (point : Option ℕ) (key : Key) (o : Option Data) → needed_value as_bool point key o ≡ None
     → o ≡ Some (boolean (unwrap_or (option_and_then as_bool o) false))
-flag_stands point key None e = absurd cc
-flag_stands point key (Some null) e = absurd cc
 flag_stands point key (Some (boolean b)) e = refl
-flag_stands point key (Some (number n)) e = absurd cc
-flag_stands point key (Some (string s)) e = absurd cc
-flag_stands point key (Some (array ds)) e = absurd cc
-flag_stands point key (Some (object ms)) e = absurd cc
+flag_stands _ _ _ e = absurd cc
 
 pub whole_stands : (point : Option ℕ) (key : Key) (o : Option Data) → needed_value as_whole point key o ≡ None
     → o ≡ Some (whole (unwrap_or (option_and_then as_whole o) 0))
-whole_stands point key None e = absurd cc
-whole_stands point key (Some null) e = absurd cc
-whole_stands point key (Some (boolean b)) e = absurd cc
 whole_stands point key (Some (number (unsigned n))) e = refl
-whole_stands point key (Some (number (negative z))) e = absurd cc
-whole_stands point key (Some (number (float x))) e = absurd cc
-whole_stands point key (Some (string s)) e = absurd cc
-whole_stands point key (Some (array ds)) e = absurd cc
-whole_stands point key (Some (object ms)) e = absurd cc
+whole_stands _ _ _ e = absurd cc
 
 pub list_stands : (point : Option ℕ) (key : Key) (o : Option Data) → needed_value as_list point key o ≡ None
     → o ≡ Some (array (items_of (unwrap_or (option_and_then as_list o) [])))
-list_stands point key None e = absurd cc
-list_stands point key (Some null) e = absurd cc
-list_stands point key (Some (boolean b)) e = absurd cc
-list_stands point key (Some (number n)) e = absurd cc
-list_stands point key (Some (string s)) e = absurd cc
 list_stands point key (Some (array ds)) e = ap (λ (items : Items). Some (array items)) (sym (items_of_list ds))
-list_stands point key (Some (object ms)) e = absurd cc
+list_stands _ _ _ e = absurd cc
 
 pub optional_text_stands : (point : Option ℕ) (key : Key) (o : Option Data) → optional_value as_str point key o ≡ None
     → IsOptional string o (option_and_then as_str o)
 optional_text_stands point key None e = refl
-optional_text_stands point key (Some null) e = absurd cc
-optional_text_stands point key (Some (boolean b)) e = absurd cc
-optional_text_stands point key (Some (number n)) e = absurd cc
 optional_text_stands point key (Some (string s)) e = refl
-optional_text_stands point key (Some (array ds)) e = absurd cc
-optional_text_stands point key (Some (object ms)) e = absurd cc
+optional_text_stands _ _ _ e = absurd cc
 
 pub optional_whole_stands : (point : Option ℕ) (key : Key) (o : Option Data)
     → optional_value as_whole point key o ≡ None → IsOptional whole o (option_and_then as_whole o)
 optional_whole_stands point key None e = refl
-optional_whole_stands point key (Some null) e = absurd cc
-optional_whole_stands point key (Some (boolean b)) e = absurd cc
 optional_whole_stands point key (Some (number (unsigned n))) e = refl
-optional_whole_stands point key (Some (number (negative z))) e = absurd cc
-optional_whole_stands point key (Some (number (float x))) e = absurd cc
-optional_whole_stands point key (Some (string s)) e = absurd cc
-optional_whole_stands point key (Some (array ds)) e = absurd cc
-optional_whole_stands point key (Some (object ms)) e = absurd cc
+optional_whole_stands _ _ _ e = absurd cc
+
+passes : (b : Bool) (fault : DhatFault) → cond {A = Finding} b None (Some fault) ≡ None → b ≡ true
+passes true fault e = refl
+passes false fault e = absurd cc
 
 pub kind_is : {A : Type 0} (kind : Data → Option A) (point : Option ℕ) (key : Key) (d : Data)
     → other_kind kind point key d ≡ None → is_some (kind d) ≡ true
-kind_is kind point key d e = at (is_some (kind d)) e
-  where
-    at : (b : Bool) → cond {A = Finding} b None (Some (WrongKind point key)) ≡ None → b ≡ true
-    at true e = refl
-    at false e = absurd cc
+kind_is kind point key d e = passes (is_some (kind d)) (WrongKind point key) e
 
 -- ---- lists of values
 
@@ -132,12 +100,8 @@ abbrev TextIs : Data → Type 0
 TextIs d = string (text_in d) ≡ d
 
 text_is : (d : Data) → other_kind as_str None Ftbl d ≡ None → TextIs d
-text_is null e = absurd cc
-text_is (boolean b) e = absurd cc
-text_is (number n) e = absurd cc
 text_is (string s) e = refl
-text_is (array ds) e = absurd cc
-text_is (object ms) e = absurd cc
+text_is _ e = absurd cc
 
 both : (d e : Data) (ds es : List Data) → d ≡ e → ds ≡ es → d ∷ ds ≡ e ∷ es
 both d e ds es p q = rw (p, q) refl
@@ -164,14 +128,8 @@ frame_below point frames n true lt e = ltb-true n frames lt
 frame_below point frames n false lt e = absurd cc
 
 frame_is : (point frames : ℕ) (d : Data) → frame_finding point frames d ≡ None → FrameIs frames d
-frame_is point frames null e = absurd cc
-frame_is point frames (boolean b) e = absurd cc
 frame_is point frames (number (unsigned n)) e = (refl, frame_below point frames n (ltb n frames) refl e)
-frame_is point frames (number (negative z)) e = absurd cc
-frame_is point frames (number (float x)) e = absurd cc
-frame_is point frames (string s) e = absurd cc
-frame_is point frames (array ds) e = absurd cc
-frame_is point frames (object ms) e = absurd cc
+frame_is _ _ _ e = absurd cc
 
 pub frames_stand : (point frames : ℕ) (ds : List Data) → AllNone (map (frame_finding point frames) ds)
     → map whole (map whole_in ds) ≡ ds
@@ -199,19 +157,11 @@ frames_again (n ∷ fs) = ap (λ (rest : List ℕ). n ∷ rest) (frames_again fs
 -- ---- parts of a profile
 
 pub kind_is_object : (v : Data) → no_object v ≡ None → is_some (as_object v) ≡ true
-kind_is_object v e = at (is_some (as_object v)) e
-  where
-    at : (b : Bool) → cond {A = Finding} b None (Some NotJson) ≡ None → b ≡ true
-    at true e = refl
-    at false e = absurd cc
+kind_is_object v e = passes (is_some (as_object v)) NotJson e
 
 array_is : (point : Option ℕ) (key : Key) (d : Data) → other_kind as_list point key d ≡ None → IsSome (as_array d)
-array_is point key null e = absurd cc
-array_is point key (boolean b) e = absurd cc
-array_is point key (number n) e = absurd cc
-array_is point key (string s) e = absurd cc
 array_is point key (array ds) e = refl
-array_is point key (object ms) e = absurd cc
+array_is _ _ _ e = absurd cc
 
 pub acc_is : (point : Option ℕ) (key : Key) (o : Option Data) → optional_value as_list point key o ≡ None
     → IfSome o (λ counts. IsSome (as_array counts))
@@ -224,12 +174,5 @@ two_is n false e h = absurd cc
 
 pub version_is : (o : Option Data) → version_value o ≡ None → needed_value Some None DhatFileVersion o ≡ None
     → o ≡ Some (whole 2)
-version_is None e h = absurd cc
-version_is (Some null) e h = absurd cc
-version_is (Some (boolean b)) e h = absurd cc
 version_is (Some (number (unsigned n))) e h = ap (λ (m : ℕ). Some (whole m)) (two_is n (n == 2) refl e)
-version_is (Some (number (negative z))) e h = absurd cc
-version_is (Some (number (float x))) e h = absurd cc
-version_is (Some (string s)) e h = absurd cc
-version_is (Some (array ds)) e h = absurd cc
-version_is (Some (object ms)) e h = absurd cc
+version_is _ e h = absurd cc

@@ -28,51 +28,31 @@ use Rattle.dhat_json.specs.ProfileIn.{found, text_at, whole_at, flag_at, list_at
 
 pub hollow_twice : (d : Data) → hollow (hollow d) ≡ hollow d
 hollow_twice null = refl
-hollow_twice (boolean b) = refl
-hollow_twice (number n) = refl
-hollow_twice (string s) = refl
-hollow_twice (array ds) = refl
-hollow_twice (object ms) = refl
+hollow_twice _ = refl
 
 -- a kind that asks for no part
 abbrev pub IsShallow : {A : Type 0} → (Data → Option A) → Type 0
 IsShallow kind = (d : Data) → kind (hollow d) ≡ kind d
 
 shallow_text : IsShallow as_str
-shallow_text null = refl
-shallow_text (boolean b) = refl
-shallow_text (number n) = refl
 shallow_text (string s) = refl
-shallow_text (array ds) = refl
-shallow_text (object ms) = refl
+shallow_text _ = refl
 
 shallow_flag : IsShallow as_bool
-shallow_flag null = refl
 shallow_flag (boolean b) = refl
-shallow_flag (number n) = refl
-shallow_flag (string s) = refl
-shallow_flag (array ds) = refl
-shallow_flag (object ms) = refl
+shallow_flag _ = refl
 
 shallow_whole : IsShallow as_whole
-shallow_whole null = refl
-shallow_whole (boolean b) = refl
 shallow_whole (number n) = refl
-shallow_whole (string s) = refl
-shallow_whole (array ds) = refl
-shallow_whole (object ms) = refl
+shallow_whole _ = refl
 
 -- whether it is of the kind
 abbrev AsksShallow : {A : Type 0} → (Data → Option A) → Type 0
 AsksShallow kind = (d : Data) → is_some (kind (hollow d)) ≡ is_some (kind d)
 
 asks_list : AsksShallow as_list
-asks_list null = refl
-asks_list (boolean b) = refl
-asks_list (number n) = refl
-asks_list (string s) = refl
 asks_list (array ds) = refl
-asks_list (object ms) = refl
+asks_list _ = refl
 
 asks : {A : Type 0} (kind : Data → Option A) → IsShallow kind → AsksShallow kind
 asks kind same d = ap is_some (same d)

@@ -44,12 +44,8 @@ unfolding dhat_in dhat_fault
 no_object_value d other = rw other refl
 
 abbrev is_object : Json → Bool
-is_object json.null = false
-is_object (json.boolean b) = false
-is_object (json.number s) = false
-is_object (json.string s) = false
-is_object (json.array js) = false
 is_object (json.object ms) = true
+is_object _ = false
 
 plain_value : (j : Json) → is_object j ≡ false → dhat_in_some (of_json j) ≡ Err NotJson
 plain_value json.null e = no_object_value spec.null refl
@@ -98,27 +94,11 @@ other_text bad ts e = ap (λ o. dhat_in_some (whole o)) (value_is 127 (bad ∷ t
 
 pub is_begin_object : (t : Token) → begins_object t ≡ true → t ≡ begin_object
 is_begin_object begin_object e = refl
-is_begin_object end_object e = absurd cc
-is_begin_object begin_array e = absurd cc
-is_begin_object end_array e = absurd cc
-is_begin_object (key s) e = absurd cc
-is_begin_object (string s) e = absurd cc
-is_begin_object (number s) e = absurd cc
-is_begin_object (boolean b) e = absurd cc
-is_begin_object null e = absurd cc
-is_begin_object bad e = absurd cc
+is_begin_object _ e = absurd cc
 
 pub is_begin_array : (t : Token) → begins_list t ≡ true → t ≡ begin_array
-is_begin_array begin_object e = absurd cc
-is_begin_array end_object e = absurd cc
 is_begin_array begin_array e = refl
-is_begin_array end_array e = absurd cc
-is_begin_array (key s) e = absurd cc
-is_begin_array (string s) e = absurd cc
-is_begin_array (number s) e = absurd cc
-is_begin_array (boolean b) e = absurd cc
-is_begin_array null e = absurd cc
-is_begin_array bad e = absurd cc
+is_begin_array _ e = absurd cc
 
 -- ---- texts that begin an object
 

@@ -1,6 +1,6 @@
 -- Where a value says a profile, no check finds anything, and that profile is read.
 use Rattle.std.proofs.Common.{◌≡◌, ℕ, suc, ◌-◌, ◌^◌, ◌<◌, List, [], ◌∷◌, length, map, All, Bool, true, false, cond}
-use Rattle.std.proofs.Common.{Option, Some, None, Ok, refl, sym, ap, ◌∙◌, subst}
+use Rattle.std.proofs.Common.{Option, Some, None, Ok, refl, sym, ap, ◌∙◌, subst, rules}
 use Rattle.std.specs.Prelude.{IsSome, IfSome, is_some, unwrap_or}
 use Rattle.std.specs.Option.{option_map, option_and_then}
 use Rattle.std.specs.List.{AllZip}
@@ -101,47 +101,15 @@ acc_found point key (Some d) h = found (as_array d) h
 
 life_found : (bklt : Bool) (point : ℕ) (d : Data) (life : Option Life) → IsPart (SaysLife d) bklt life
     → AllNone (life_findings bklt point d)
-life_found false point d None h = tt
-life_found false point d (Some life) h = tt
+life_found false point d life h = tt
 life_found true point d None h = absurd h
-life_found true point d (Some life) h = (
-  whole_found (Some point) Tl _ life.tl h.tl,
-  (
-    whole_found (Some point) Mb _ life.mb h.mb,
-    (
-      whole_found (Some point) Mbk _ life.mbk h.mbk,
-      (
-        whole_found (Some point) Gb _ life.gb h.gb,
-        (
-          whole_found (Some point) Gbk _ life.gbk h.gbk,
-          (
-            whole_found (Some point) Eb _ life.eb h.eb,
-            (
-              whole_found (Some point) Ebk _ life.ebk h.ebk,
-              tt,
-            ),
-          ),
-        ),
-      ),
-    ),
-  ),
-)
+life_found true point d (Some life) h = search (rules, whole_found)
 
 access_found : (bkacc : Bool) (point : ℕ) (d : Data) (access : Option Access) → IsPart (SaysAccess d) bkacc access
     → AllNone (access_findings bkacc point d)
-access_found false point d None h = tt
-access_found false point d (Some access) h = tt
+access_found false point d access h = tt
 access_found true point d None h = absurd h
-access_found true point d (Some access) h = (
-  whole_found (Some point) Rb _ access.rb h.rb,
-  (
-    whole_found (Some point) Wb _ access.wb h.wb,
-    (
-      acc_found (Some point) Acc _ h.acc,
-      tt,
-    ),
-  ),
-)
+access_found true point d (Some access) h = search (rules, whole_found, acc_found)
 
 object_found : (point : Option ℕ) (key : Key) (d : Data) → IsSome (as_object d)
     → other_kind as_object point key d ≡ None
@@ -185,16 +153,19 @@ same_life : (tl tl' : ℕ) (mb mb' : ℕ) (mbk mbk' : ℕ) (gb gb' : ℕ) (gbk g
 same_life tl tl' mb mb' mbk mbk' gb gb' gbk gbk' eb eb' ebk ebk' e0 e1 e2 e3 e4 e5 e6 =
     rw (e0, e1, e2, e3, e4, e5, e6) refl
 
-life_again : (bklt : Bool) (d : Data) (life : Option Life) → IsPart (SaysLife d) bklt life
-    → part_in bklt (life_in d) ≡ life
-life_again false d None h = refl
-life_again false d (Some life) h = absurd h
-life_again true d None h = absurd h
-life_again true d (Some life) h =
-    ap Some (same_life _ life.tl _ life.mb _ life.mbk _ life.gb _ life.gbk _ life.eb _ life.ebk
+part_again : {A : Type 0} (Says : A → Type 0) (told : Bool) (here : A) (part : Option A) → IsPart Says told part
+    → ((found : A) → Says found → here ≡ found) → part_in told here ≡ part
+part_again Says false here None h same = refl
+part_again Says false here (Some found) h same = absurd h
+part_again Says true here None h same = absurd h
+part_again Says true here (Some found) h same = ap Some (same found h)
+
+life_again : (d : Data) (life : Life) → SaysLife d life → life_in d ≡ life
+life_again d life h =
+    same_life _ life.tl _ life.mb _ life.mbk _ life.gb _ life.gbk _ life.eb _ life.ebk
     (whole_again _ life.tl h.tl) (whole_again _ life.mb h.mb) (whole_again _ life.mbk h.mbk)
     (whole_again _ life.gb h.gb) (whole_again _ life.gbk h.gbk) (whole_again _ life.eb h.eb)
-    (whole_again _ life.ebk h.ebk))
+    (whole_again _ life.ebk h.ebk)
 
 abbrev make_access : ℕ → ℕ → Access
 make_access rb wb = record { rb = rb; wb = wb }
@@ -202,13 +173,9 @@ make_access rb wb = record { rb = rb; wb = wb }
 same_access : (rb rb' wb wb' : ℕ) → rb ≡ rb' → wb ≡ wb' → make_access rb wb ≡ make_access rb' wb'
 same_access rb rb' wb wb' e f = rw (e, f) refl
 
-access_again : (bkacc : Bool) (d : Data) (access : Option Access) → IsPart (SaysAccess d) bkacc access
-    → part_in bkacc (access_in d) ≡ access
-access_again false d None h = refl
-access_again false d (Some access) h = absurd h
-access_again true d None h = absurd h
-access_again true d (Some access) h =
-    ap Some (same_access _ access.rb _ access.wb (whole_again _ access.rb h.rb) (whole_again _ access.wb h.wb))
+access_again : (d : Data) (access : Access) → SaysAccess d access → access_in d ≡ access
+access_again d access h =
+    same_access _ access.rb _ access.wb (whole_again _ access.rb h.rb) (whole_again _ access.wb h.wb)
 
 abbrev make_same_point : ℕ → ℕ → Option Life → Option Access → List ℕ → Point
 make_same_point tb tbk life access fs = record { tb = tb; tbk = tbk; life = life; access = access; fs = fs }
@@ -224,8 +191,8 @@ point_again bklt bkacc frames d point h =
     let fs : map whole_in (list_at Fs d) ≡ point.fs =
     ap (map whole_in) (list_again _ (map whole point.fs) h.fs) ∙ frames_again point.fs in
     same_point _ point.tb _ point.tbk _ point.life _ point.access _ point.fs (whole_again _ point.tb h.tb)
-    (whole_again _ point.tbk h.tbk) (life_again bklt d point.life h.life) (access_again bkacc d point.access h.access)
-    fs
+    (whole_again _ point.tbk h.tbk) (part_again (SaysLife d) bklt (life_in d) point.life h.life (life_again d))
+    (part_again (SaysAccess d) bkacc (access_in d) point.access h.access (access_again d)) fs
 
 both : (p q : Point) (ps qs : List Point) → p ≡ q → ps ≡ qs → p ∷ ps ≡ q ∷ qs
 both p q ps qs e f = rw (e, f) refl
@@ -254,64 +221,13 @@ few_found : (ds : List Data) → length ds < 2 ^ 32 - 1 → too_many ds ≡ None
 few_found ds lt = rw (lt-ltb (length ds) (2 ^ 32 - 1) lt) refl
 
 head_found : (v : Data) (d : Dhat) → is_dhat v d → AllNone (head_findings v)
-head_found v d h = (
-  object_is v h.object,
-  (
-    version_found _ h.version,
-    (
-      version_stands None DhatFileVersion _ (whole 2) h.version,
-      (
-        text_found None Mode _ d.mode h.mode,
-        (
-          text_found None Verb _ d.verb h.verb,
-          (
-            flag_found None Bklt _ d.bklt h.bklt,
-            (
-              flag_found None Bkacc _ d.bkacc h.bkacc,
-              tt,
-            ),
-          ),
-        ),
-      ),
-    ),
-  ),
-)
+head_found v d h = search (rules, object_is, version_found, version_stands, text_found, flag_found)
 
 units_found : (v : Data) (d : Dhat) → is_dhat v d → AllNone (unit_findings v)
-units_found v d h = (
-  optional_text_found None Bu _ d.bu h.bu,
-  (
-    optional_text_found None Bsu _ d.bsu h.bsu,
-    (
-      optional_text_found None Bksu _ d.bksu h.bksu,
-      (
-        text_found None Tu _ d.tu h.tu,
-        (
-          text_found None Mtu _ d.mtu h.mtu,
-          (
-            optional_whole_found None Tuth _ d.tuth h.tuth,
-            tt,
-          ),
-        ),
-      ),
-    ),
-  ),
-)
+units_found v d h = search (rules, optional_text_found, text_found, optional_whole_found)
 
 run_found : (v : Data) (d : Dhat) → is_dhat v d → AllNone (run_findings v)
-run_found v d h = (
-  text_found None Cmd _ d.cmd h.cmd,
-  (
-    whole_found None Pid _ d.pid h.pid,
-    (
-      whole_found None Te _ d.te h.te,
-      (
-        optional_whole_found None Tg _ d.tg h.tg,
-        tt,
-      ),
-    ),
-  ),
-)
+run_found v d h = search (rules, text_found, whole_found, optional_whole_found)
 
 table_found : (v : Data) (d : Dhat) → is_dhat v d → AllNone (table_findings v)
 table_found v d h =

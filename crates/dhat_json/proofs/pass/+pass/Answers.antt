@@ -1,5 +1,4 @@
 use Rattle.std.proofs.Common.{◌≡◌, ◌-◌, ◌<◌, [], ◌∷◌, length, Some, None, refl, sym, ap, ap₂, ◌∙◌, arith}
-use Rattle.json.specs.Token.{Token}
 use Rattle.json.specs.Json.{after_end_array, read_key, value}
 use Rattle.json.specs.Reads.{token_of}
 use Rattle.json.proofs.Grammar.{left_none, left_some, left-parse_map, read_key-shorter, value_is}
@@ -34,32 +33,33 @@ pass_items-items-preserved t c =
 
 pub pass_items-returns-in_err-pass_value-clause-passed : goal.pass_items-returns-in_err-pass_value-clause-passed
 pass_items-returns-in_err-pass_value-clause-passed t c =
-    let p = value c.args.depth in
     let l = c.items in
-    let n = l.invariant.0 in
     let going : (after_end_array l.reader ≡ None) × (c.take_end_array.new.self ≡ l.reader) = grind arith in
-    let none =
-    l.invariant.2
-    ∙ ap behind
-    (item_refused p n l.reader going.0 (left_none _ (rw (← going.1) c.in_err-pass_value.ensures.passed))) in
-    grind (arith, none)
+    grind (
+      arith,
+      l.invariant.2
+          ∙ ap behind
+          (item_refused (value c.args.depth) l.invariant.0 l.reader going.0
+          (left_none _ (rw (← going.1) c.in_err-pass_value.ensures.passed))),
+    )
 
 pub pass_items-returns-clause-passed : goal.pass_items-returns-clause-passed
 pass_items-returns-clause-passed t c =
-    let p = value c.args.depth in
     let l = c.items in
-    let n = l.invariant.0 in
-    l.invariant.2 ∙ ap behind (items_over p n l.reader c.take_end_array.new.self l.invariant.1 (grind arith))
+    l.invariant.2
+    ∙ ap behind
+    (items_over (value c.args.depth) l.invariant.0 l.reader c.take_end_array.new.self l.invariant.1 (grind arith))
 
 pub pass_members-members-init : goal.pass_members-members-init
 pass_members-members-init t c = (length c.args.reader.now, omega arith, no_members, refl, omega arith)
 
 pub pass_members-returns-in_err-next_key-clause-passed : goal.pass_members-returns-in_err-next_key-clause-passed
 pass_members-returns-in_err-next_key-clause-passed t c =
-    let p = value c.args.depth in
     let l = c.members in
-    let n = l.invariant.0 in
-    let none = l.invariant.3 ∙ ap behind (key_refused p l.invariant.2 n l.reader c.in_err-next_key.ensures.value) in
+    let none =
+    l.invariant.3
+    ∙ ap behind
+    (key_refused (value c.args.depth) l.invariant.2 l.invariant.0 l.reader c.in_err-next_key.ensures.value) in
     grind (arith, none)
 
 pub pass_members-members-preserved : goal.pass_members-members-preserved
@@ -83,24 +83,23 @@ pass_members-members-preserved t c =
 
 pub pass_members-returns-in_err-pass_value-clause-passed : goal.pass_members-returns-in_err-pass_value-clause-passed
 pass_members-returns-in_err-pass_value-clause-passed t c =
-    let p = value c.args.depth in
     let l = c.members in
-    let n = l.invariant.0 in
     let k = c.in-Some.field-0.now in
-    let s = c.next_key.new.self in
-    let named : read_key l.reader ≡ Some (Some k, s) = grind arith in
+    let named : read_key l.reader ≡ Some (Some k, c.next_key.new.self) = grind arith in
     let none =
     l.invariant.3
     ∙ ap behind
-    (member_refused p l.invariant.2 n k l.reader s named (left_none _ c.in_err-pass_value.ensures.passed)) in
+    (member_refused (value c.args.depth) l.invariant.2 l.invariant.0 k l.reader c.next_key.new.self named
+    (left_none _ c.in_err-pass_value.ensures.passed)) in
     grind (arith, none)
 
 pub pass_members-returns-clause-passed : goal.pass_members-returns-clause-passed
 pass_members-returns-clause-passed t c =
-    let p = value c.args.depth in
     let l = c.members in
-    let n = l.invariant.0 in
-    l.invariant.3 ∙ ap behind (members_over p l.invariant.2 n l.reader c.next_key.new.self l.invariant.1 (grind arith))
+    l.invariant.3
+    ∙ ap behind
+    (members_over (value c.args.depth) l.invariant.2 l.invariant.0 l.reader c.next_key.new.self l.invariant.1
+    (grind arith))
 
 pub pass_value-returns-in_err-token-clause-passed : goal.pass_value-returns-in_err-token-clause-passed
 pass_value-returns-in_err-token-clause-passed t c =
@@ -143,12 +142,8 @@ pass_value-returns-then-depth-eq0-clause-passed t c =
 pub pass_value-returns-else-depth-eq0-clause-passed : goal.pass_value-returns-else-depth-eq0-clause-passed
 pass_value-returns-else-depth-eq0-clause-passed t c =
     let first : c.args.reader.now ≡ token_of c.in_ok-token.token ∷ c.next.new.self = grind arith in
-    let opened : c.args.reader.now ≡ Token.begin_array ∷ c.next.new.self =
-    first ∙ ap (λ k. token_of k ∷ c.next.new.self) c.in-BeginArray.is in
-    let same =
-    ap (λ ts. behind (value_ahead c.args.depth ts)) opened
-    ∙ behind_array c.args.depth c.next.new.self (omega arith) in
-    rw same c.pass_items.ensures.passed
+    let opened = first ∙ ap (λ k. token_of k ∷ c.next.new.self) c.in-BeginArray.is in
+    rw (behind_array c.args.depth _ c.next.new.self opened (omega arith)) c.pass_items.ensures.passed
 
 pub pass_value-returns-then-depth-eq0-2-clause-passed : goal.pass_value-returns-then-depth-eq0-2-clause-passed
 unfolding value
@@ -160,12 +155,8 @@ pass_value-returns-then-depth-eq0-2-clause-passed t c =
 pub pass_value-returns-else-depth-eq0-2-clause-passed : goal.pass_value-returns-else-depth-eq0-2-clause-passed
 pass_value-returns-else-depth-eq0-2-clause-passed t c =
     let first : c.args.reader.now ≡ token_of c.in_ok-token.token ∷ c.next.new.self = grind arith in
-    let opened : c.args.reader.now ≡ Token.begin_object ∷ c.next.new.self =
-    first ∙ ap (λ k. token_of k ∷ c.next.new.self) c.in-BeginObject.is in
-    let same =
-    ap (λ ts. behind (value_ahead c.args.depth ts)) opened
-    ∙ behind_object c.args.depth c.next.new.self (omega arith) in
-    rw same c.pass_members.ensures.passed
+    let opened = first ∙ ap (λ k. token_of k ∷ c.next.new.self) c.in-BeginObject.is in
+    rw (behind_object c.args.depth _ c.next.new.self opened (omega arith)) c.pass_members.ensures.passed
 
 pub pass_value-returns-then-is_in_range-clause-passed : goal.pass_value-returns-then-is_in_range-clause-passed
 pass_value-returns-then-is_in_range-clause-passed t c =

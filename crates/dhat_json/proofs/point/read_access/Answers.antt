@@ -1,12 +1,11 @@
 use Rattle.std.proofs.Common.{◌≡◌, ℕ, Some, [], ◌∷◌, refl, ap, ◌∙◌}
-use Rattle.std.proofs.lemmas.Result.{err_from_is_err_and}
 use Rattle.serde_json.specs.Data.{Data}
 use Rattle.dhat_json.specs.DataOf.{data_of}
 use Rattle.dhat_json.specs.declared.key.Key.TheVariants.{Rb, Wb, Acc}
 use Rattle.dhat_json.specs.DhatFault.{allowed, pair_findings}
 use Rattle.dhat_json.specs.Kinds.{as_list}
 use Rattle.dhat_json.specs.ProfileIn.{access_in, whole_at}
-use Rattle.dhat_json.proofs.Findings.{fault_follows, passed_then, found_first, first_later, first_stays}
+use Rattle.dhat_json.proofs.Findings.{passes_on, passed_then, found_first, first_later, first_stays}
 use Rattle.dhat_json.proofs.point.read_access.Goals as goal
 
 access_is : (d : Data) (both : ℕ × ℕ) → both ≡ (whole_at Rb d, whole_at Wb d)
@@ -17,22 +16,18 @@ pub returns-in_err-rb : goal.returns-in_err-rb
 returns-in_err-rb c =
     let d = data_of c.args.value.now in
     let n = c.args.number in
-    let p = err_from_is_err_and c.from_residual.result c.from_residual.ensures.1 in
-    let fault = c.in_err-rb.field-0.0 in
-    rw (c.if-not-told.false, p.1, p.2)
-    (fault_follows _ _ fault c.in_err-rb.ensures
-    (λ found. first_stays (pair_findings n Rb Wb d) (allowed as_list (Some n) Acc d ∷ []) fault found))
+    rw c.if-not-told.false
+    (passes_on _ _ _ _ _ c.from_residual.ensures.1 c.in_err-rb.ensures
+    (first_stays (pair_findings n Rb Wb d) (allowed as_list (Some n) Acc d ∷ []) _))
 
 pub returns-in_err-check_counts : goal.returns-in_err-check_counts
 returns-in_err-check_counts c =
     let d = data_of c.args.value.now in
     let n = c.args.number in
     let counts = allowed as_list (Some n) Acc d in
-    let p =
-    err_from_is_err_and c.from_residual-in_err-check_counts.result c.from_residual-in_err-check_counts.ensures.1 in
-    let fault = c.in_err-check_counts.field-0.0 in
-    rw (c.if-not-told.false, p.1, p.2) (fault_follows _ _ fault c.in_err-check_counts.ensures (λ found.
-    first_later (pair_findings n Rb Wb d) (counts ∷ []) c.in_ok-rb.ensures.0 ∙ found_first counts [] fault found))
+    rw c.if-not-told.false
+    (passes_on _ _ _ _ _ c.from_residual-in_err-check_counts.ensures.1 c.in_err-check_counts.ensures (λ found.
+    first_later (pair_findings n Rb Wb d) (counts ∷ []) c.in_ok-rb.ensures.0 ∙ found_first counts [] _ found))
 
 pub returns : goal.returns
 returns c =

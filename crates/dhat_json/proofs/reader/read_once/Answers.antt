@@ -20,46 +20,45 @@ use Rattle.dhat_json.proofs.Findings.{fault_follows, read_as, refused_as}
 use Rattle.dhat_json.proofs.OutlineLemmas.{findings_same, front_same}
 use Rattle.dhat_json.proofs.ProfileFindings.{refused_in_front}
 use Rattle.dhat_json.proofs.reader.read_once.Goals as goal
+use Rattle.dhat_json.proofs.reader.read_once.Goals.{After-into_parts-members}
+
+-- what was taken for the members is the outline of the text's value
+outline-is : (c : After-into_parts-members)
+    → IsOutline (data_of (Object c.into_parts-members.result.0)) (object c.in_ok-survey.ensures.surveyed.found)
+outline-is c =
+    let same : data_of (Object c.into_parts-members.result.0) ≡ outline_of c.in_ok-survey.survey =
+    ap json_data (view-Object c.into_parts-members.result.0)
+    ∙ ap (λ p. object (members_data (members_view p.0.items) no_members)) c.into_parts-members.ensures in
+    subst (λ (o : Data). IsOutline o (object c.in_ok-survey.ensures.surveyed.found)) (sym same)
+    c.in_ok-survey.ensures.surveyed.met.outline
 
 pub returns-in_err-gathered-clause-fault : goal.returns-in_err-gathered-clause-fault
 returns-in_err-gathered-clause-fault c =
-    let survey = c.in_ok-survey.survey in
+    let is = outline-is (goal.at.returns-in_err-gathered-clause-fault c).After-into_parts-members in
     let surveyed = c.in_ok-survey.ensures.surveyed in
-    let parts = c.into_parts-members in
-    let v = data_of (Object parts.result.0) in
-    let d = object surveyed.found in
-    let same : v ≡ outline_of survey =
-    ap json_data (view-Object parts.result.0)
-    ∙ ap (λ p. object (members_data (members_view p.0.items) no_members)) parts.ensures in
-    let is = subst (λ (o : Data). IsOutline o d) (sym same) surveyed.met.outline in
     let p = err_from_is_err_and c.from_residual-in_err-gathered.result c.from_residual-in_err-gathered.ensures.1 in
-    let fault = c.in_err-gathered.field-0.0 in
-    let refused =
-    refused_as c.read_front-front.result fault _ _ c.in_err-gathered.ensures.err c.read_front-front.ensures.read in
     rw (p.1, p.2)
-    (fault_follows _ _ fault refused
-    (λ e. ap dhat_in_some surveyed.is ∙ refused_in_front d fault (ap first_of (sym (findings_same v d is)) ∙ e)))
+    (fault_follows _ _ c.in_err-gathered.field-0.0
+    (refused_as _ _ _ _ c.in_err-gathered.ensures.err c.read_front-front.ensures.read)
+    (λ e. ap dhat_in_some surveyed.is
+    ∙ refused_in_front (object surveyed.found) _ (ap first_of (sym (findings_same _ _ is)) ∙ e)))
 
 pub returns-clause-read : goal.returns-clause-read
 returns-clause-read c =
+    let is = outline-is (goal.at.returns-clause-read c).After-into_parts-members in
     let survey = c.in_ok-survey.survey in
     let surveyed = c.in_ok-survey.ensures.surveyed in
-    let parts = c.into_parts-members in
-    let v = data_of (Object parts.result.0) in
     let d = object surveyed.found in
-    let same : v ≡ outline_of survey =
-    ap json_data (view-Object parts.result.0)
-    ∙ ap (λ p. object (members_data (members_view p.0.items) no_members)) parts.ensures in
-    let is = subst (λ (o : Data). IsOutline o d) (sym same) surveyed.met.outline in
     let both = c.in_ok-gathered in
     let front = read_as c.read_front-front.result both.front _ _ both.ensures.ok.0 c.read_front-front.ensures.read in
-    let gathered : both.gathered ≡ survey.gathered = both.ensures.ok.1 ∙ ap (λ p. p.1) parts.ensures in
+    let gathered : both.gathered ≡ survey.gathered =
+    both.ensures.ok.1 ∙ ap (λ p. p.1) c.into_parts-members.ensures in
     let shape =
     subst (λ (given : Option Shape). IfSome given (λ shape. survey.gathered.shape ≡ shape))
     c.in_ok-survey.ensures.given surveyed.met.shape in record {
       value = d;
       is = surveyed.is;
-      says = record { none = ap first_of (sym (findings_same v d is)) ∙ front.0; says = front.1 ∙ front_same v d is };
+      says = record { none = ap first_of (sym (findings_same _ d is)) ∙ front.0; says = front.1 ∙ front_same _ d is };
       texts = IfOk-at_ok HasFrontTexts both.ensures.ok.0 c.read_front-front.ensures.utf8;
       points = subst (λ (g : Gathered). HasGathered g (list_at Pps d)) (sym gathered) surveyed.met.points;
       shape = subst (λ (g : Gathered). IfSome c.args.given (λ shape. g.shape ≡ shape)) (sym gathered) shape;

@@ -1,30 +1,23 @@
 use Rattle.std.proofs.Common.{refl, sym, ◌∙◌, subst}
-use Rattle.std.proofs.lemmas.Result.{err_from_is_err_and, IfOk-at_ok}
+use Rattle.std.proofs.lemmas.Result.{IfOk-at_ok}
 use Rattle.dhat_json.specs.DataOf.{data_of}
 use Rattle.dhat_json.specs.DhatFault.{block_unit_findings, time_unit_findings}
 use Rattle.dhat_json.specs.Parts.{HasBlockTexts, HasTimeTexts}
-use Rattle.dhat_json.proofs.Findings.{fault_follows, first_later, first_stays, read_as, refused_as}
+use Rattle.dhat_json.proofs.Findings.{passes_on, first_later, first_stays, read_as, refused_as}
 use Rattle.dhat_json.proofs.reader.read_units.Goals as goal
 
 pub returns-in_err-block-clause-read : goal.returns-in_err-block-clause-read
 returns-in_err-block-clause-read c =
     let v = data_of c.args.value.now in
-    let p = err_from_is_err_and c.from_residual.result c.from_residual.ensures.1 in
-    let fault = c.in_err-block.field-0.0 in
-    rw (p.1, p.2)
-    (fault_follows _ _ fault c.in_err-block.ensures.read
-    (λ found. first_stays (block_unit_findings v) (time_unit_findings v) fault found))
+    passes_on _ _ _ _ _ c.from_residual.ensures.1 c.in_err-block.ensures.read
+    (first_stays (block_unit_findings v) (time_unit_findings v) _)
 
 pub returns-in_err-block-2-clause-read : goal.returns-in_err-block-2-clause-read
 returns-in_err-block-2-clause-read c =
     let v = data_of c.args.value.now in
-    let p = err_from_is_err_and c.from_residual-in_err-block-2.result c.from_residual-in_err-block-2.ensures.1 in
-    let fault = c.in_err-block-2.field-0.0 in
-    let refused =
-    refused_as c.read_time_units.result fault _ _ c.in_err-block-2.ensures.err c.read_time_units.ensures.read in
-    rw (p.1, p.2)
-    (fault_follows _ _ fault refused
-    (λ found. first_later (block_unit_findings v) (time_unit_findings v) c.in_ok-block.ensures.read.0 ∙ found))
+    passes_on _ _ _ _ _ c.from_residual-in_err-block-2.ensures.1
+    (refused_as _ _ _ _ c.in_err-block-2.ensures.err c.read_time_units.ensures.read)
+    (λ found. first_later (block_unit_findings v) (time_unit_findings v) c.in_ok-block.ensures.read.0 ∙ found)
 
 pub returns-clause-read : goal.returns-clause-read
 returns-clause-read c =
