@@ -50,14 +50,9 @@ last-passes {X} passes (y ∷ ys) = by (last_such passes ys) (last-passes passes
 -- a mark that is the same
 mark-is : (m n : HeapTree) → same_mark m n ≡ true → n ≡ m
 mark-is Empty Empty e = refl
-mark-is Empty Detailed e = absurd cc
-mark-is Empty Peak e = absurd cc
-mark-is Detailed Empty e = absurd cc
 mark-is Detailed Detailed e = refl
-mark-is Detailed Peak e = absurd cc
-mark-is Peak Empty e = absurd cc
-mark-is Peak Detailed e = absurd cc
 mark-is Peak Peak e = refl
+mark-is _ _ e = absurd cc
 
 and-first : (a b : Bool) → a && b ≡ true → a ≡ true
 and-first true b e = refl
@@ -87,6 +82,21 @@ better-stays bar later high = by (ltb (rank_of later.mark) (rank_of bar.mark)) r
     by true is = refl
     by false is = absurd (grind (arith, nat_tests))
 
+-- the same of two snapshots, by their marks
+later-shows : (plot : Plot) (s snap : Snap) (first later : HeapTree) → s.mark ≡ first → snap.mark ≡ later
+    → rank_of first ≤ rank_of later → Some (bar_for plot snap) ≡ Some (better (Some (bar_for plot s)) (bar_for plot snap))
+later-shows plot s snap first later first-is later-is low =
+    ap Some (sym
+    (better-later (bar_for plot s) (bar_for plot snap)
+    (let a = ap rank_of first-is in let b = ap rank_of later-is in omega arith)))
+
+first-shows : (plot : Plot) (s snap : Snap) (first later : HeapTree) → s.mark ≡ first → snap.mark ≡ later
+    → rank_of later < rank_of first → Some (bar_for plot s) ≡ Some (better (Some (bar_for plot s)) (bar_for plot snap))
+first-shows plot s snap first later first-is later-is high =
+    ap Some (sym
+    (better-stays (bar_for plot s) (bar_for plot snap)
+    (let a = ap rank_of first-is in let b = ap rank_of later-is in omega arith)))
+
 rank-most : (m : HeapTree) → rank_of m ≤ 2
 rank-most Empty = omega arith
 rank-most Detailed = omega arith
@@ -108,31 +118,14 @@ picked-more plot snap Peak is peak detailed plain p d n = ap Some (sym (by (pick
     by None = refl
     by (Some bar) =
         better-later bar (bar_for plot snap) (let most = rank-most bar.mark in let rank = ap rank_of is in omega arith)
-picked-more plot snap Detailed is (Some s) detailed plain p d n =
-    ap Some (sym
-    (better-stays (bar_for plot s) (bar_for plot snap)
-    (let rank = ap rank_of is in let high = ap rank_of p in omega arith)))
+picked-more plot snap Detailed is (Some s) detailed plain p d n = first-shows plot s snap Peak Detailed p is (omega arith)
 picked-more plot snap Detailed is None (Some s) plain p d n =
-    ap Some (sym
-    (better-later (bar_for plot s) (bar_for plot snap)
-    (let rank = ap rank_of is in let low = ap rank_of d in omega arith)))
-picked-more plot snap Detailed is None None (Some s) p d n =
-    ap Some (sym
-    (better-later (bar_for plot s) (bar_for plot snap)
-    (let rank = ap rank_of is in let low = ap rank_of n in omega arith)))
+    later-shows plot s snap Detailed Detailed d is (omega arith)
+picked-more plot snap Detailed is None None (Some s) p d n = later-shows plot s snap Empty Detailed n is (omega arith)
 picked-more plot snap Detailed is None None None p d n = refl
-picked-more plot snap Empty is (Some s) detailed plain p d n =
-    ap Some (sym
-    (better-stays (bar_for plot s) (bar_for plot snap)
-    (let rank = ap rank_of is in let high = ap rank_of p in omega arith)))
-picked-more plot snap Empty is None (Some s) plain p d n =
-    ap Some (sym
-    (better-stays (bar_for plot s) (bar_for plot snap)
-    (let rank = ap rank_of is in let high = ap rank_of d in omega arith)))
-picked-more plot snap Empty is None None (Some s) p d n =
-    ap Some (sym
-    (better-later (bar_for plot s) (bar_for plot snap)
-    (let rank = ap rank_of is in let low = ap rank_of n in omega arith)))
+picked-more plot snap Empty is (Some s) detailed plain p d n = first-shows plot s snap Peak Empty p is (omega arith)
+picked-more plot snap Empty is None (Some s) plain p d n = first-shows plot s snap Detailed Empty d is (omega arith)
+picked-more plot snap Empty is None None (Some s) p d n = later-shows plot s snap Empty Empty n is (omega arith)
 picked-more plot snap Empty is None None None p d n = refl
 
 -- the same where it stands in the column, and where it doesn't

@@ -34,6 +34,12 @@ split-none scale lines indent all =
       kept_is = λ more trees roots. roots;
     }
 
+-- the same by equal numbers and entries
+pub split-same : (scale : Scale) (lines : List TreeLine) (indent : ℕ) (all left : Trees) {places places' bytes
+    bytes' : ℕ} {items items' : List Pending} → places' ≡ places → bytes' ≡ bytes → items' ≡ items
+    → IsSplit scale lines indent all left places bytes items → IsSplit scale lines indent all left places' bytes' items'
+split-same scale lines indent all left p b i split = rw (p, b, i) split
+
 pub split-small : (scale : Scale) (lines : List TreeLine) (indent : ℕ) (all : Trees) (b : ℕ) (label : List ℕ)
     (children others : Trees) (places bytes : ℕ) (items : List Pending)
     → is_small scale b ≡ true → IsSplit scale lines indent all (a_tree b label children others) places bytes items

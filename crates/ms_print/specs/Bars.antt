@@ -23,14 +23,9 @@ last_such passes (x ∷ xs) = option_or (last_such passes xs) (if passes x then 
 -- the same mark
 abbrev pub same_mark : HeapTree → HeapTree → Bool
 same_mark Empty Empty = true
-same_mark Empty Detailed = false
-same_mark Empty Peak = false
-same_mark Detailed Empty = false
 same_mark Detailed Detailed = true
-same_mark Detailed Peak = false
-same_mark Peak Empty = false
-same_mark Peak Detailed = false
 same_mark Peak Peak = true
+same_mark _ _ = false
 
 -- the snapshot has this mark, and stands in column x
 abbrev pub stands_in : Plot → ℕ → HeapTree → Snap → Bool

@@ -10,7 +10,7 @@ use Rattle.ms_print.specs.Shown.{shown}
 use Rattle.ms_print.specs.declared.children.Pending.{Pending}
 use Rattle.ms_print.specs.Ends.{IsEnd, children_at, trees_at}
 use Rattle.ms_print.specs.TreesOf.{first_trees}
-use Rattle.ms_print.proofs.SplitLemmas.{IsSplit, left-next, split-kept, split-none, split-roots, split-small}
+use Rattle.ms_print.proofs.SplitLemmas.{IsSplit, left-next, split-kept, split-none, split-roots, split-same, split-small}
 use Rattle.ms_print.proofs.SplitLemmas.{split-small-all}
 use Rattle.ms_print.proofs.TreesOfLemmas.{children-at, passed-more, passed-none, passed-some}
 use Rattle.ms_print.proofs.children.split_children.Goals as goal
@@ -86,20 +86,10 @@ each_child-preserved c =
           ap (λ (g : Gathered). g.places) w.gathered-is ∙ w.with-gathered.ensures.places in
           let bytes : c.if-is_small.gathered.bytes ≡ min (old.bytes + kid.bytes) (2 ^ 64 - 1) =
           ap (λ (g : Gathered). g.bytes) w.gathered-is ∙ w.with-gathered.ensures.bytes in
-          record {
-            passed = passed;
-            few = omega arith;
-            fits = omega arith;
-            split =
-                subst
-                (λ (ps : List Pending). IsSplit scale tree indent all next c.if-is_small.gathered.places
-                c.if-is_small.gathered.bytes ps)
-                (sym (ap (λ (v : Vec Pending Global). v.items) w.children-is))
-                (subst (λ (n : ℕ). IsSplit scale tree indent all next c.if-is_small.gathered.places n items) (sym bytes)
-                (subst
-                (λ (n : ℕ). IsSplit scale tree indent all next n (min (old.bytes + kid.bytes) (2 ^ 64 - 1)) items)
-                (sym places) after));
-          }
+          let split =
+          split-same scale tree indent all next places bytes (ap (λ (v : Vec Pending Global). v.items) w.children-is)
+          after in
+          record { passed = passed; few = omega arith; fits = omega arith; split = split }
       | else-is_small+in_ok-push w ↦
           let large : is_small scale kid.bytes ≡ false = sym c.is_small.ensures ∙ w.if-is_small.false in
           let root : IsRoot scale tree indent (record { indent = indent; entry = Line child }) kid.bytes kid.label
@@ -116,20 +106,10 @@ each_child-preserved c =
           items (record { indent = indent; entry = Line child }) large root before in
           let places : c.if-is_small.gathered.places ≡ old.places = ap (λ (g : Gathered). g.places) w.gathered-is in
           let bytes : c.if-is_small.gathered.bytes ≡ old.bytes = ap (λ (g : Gathered). g.bytes) w.gathered-is in
-          record {
-            passed = passed;
-            few = omega arith;
-            fits = omega arith;
-            split =
-                subst
-                (λ (ps : List Pending). IsSplit scale tree indent all next c.if-is_small.gathered.places
-                c.if-is_small.gathered.bytes ps)
-                (sym (ap (λ (v : Vec Pending Global). v.items) w.children-is ∙ w.in_ok-push.ensures.items))
-                (subst
-                (λ (g : Gathered). IsSplit scale tree indent all next g.places g.bytes
-                (items ++ (record { indent = indent; entry = Line child }) ∷ []))
-                (sym w.gathered-is) after);
-          }
+          let split =
+          split-same scale tree indent all next places bytes
+          (ap (λ (v : Vec Pending Global). v.items) w.children-is ∙ w.in_ok-push.ensures.items) after in
+          record { passed = passed; few = omega arith; fits = omega arith; split = split }
     ]
 
 -- no child is left

@@ -1,4 +1,5 @@
 use Rattle.hp_num.proofs.Laws.{extends_more, extends_put, extends_same, extends_trans}
+use Rattle.ms_print.proofs.Appends.{four-kept, three-kept}
 use Rattle.ms_print.proofs.entry.put_share.Goals as goal
 
 pub returns-in_err-put_bytes-clause-kept : goal.returns-in_err-put_bytes-clause-kept
@@ -8,16 +9,11 @@ returns-in_err-put_bytes-clause-kept c =
 
 pub returns-in_err-put_commas-clause-kept : goal.returns-in_err-put_commas-clause-kept
 returns-in_err-put_commas-clause-kept c =
-    extends_trans _ _ _
-    (extends_trans _ _ _ (extends_more _ _ _ c.in_ok-put_percent.ensures.appended)
-    (extends_more _ _ _ c.in_ok-put_bytes.ensures.appended))
-    (extends_same _ _ c.in_err-put_commas.ensures.unchanged)
+    three-kept _ _ _ _ (extends_more _ _ _ c.in_ok-put_percent.ensures.appended)
+    (extends_more _ _ _ c.in_ok-put_bytes.ensures.appended) (extends_same _ _ c.in_err-put_commas.ensures.unchanged)
 
 pub returns-clause-kept : goal.returns-clause-kept
 returns-clause-kept c =
-    extends_trans _ _ _
-    (extends_trans _ _ _
-    (extends_trans _ _ _ (extends_more _ _ _ c.in_ok-put_percent.ensures.appended)
-    (extends_more _ _ _ c.in_ok-put_bytes.ensures.appended))
-    (extends_more _ _ _ c.in_ok-put_commas.ensures.appended))
+    four-kept _ _ _ _ _ (extends_more _ _ _ c.in_ok-put_percent.ensures.appended)
+    (extends_more _ _ _ c.in_ok-put_bytes.ensures.appended) (extends_more _ _ _ c.in_ok-put_commas.ensures.appended)
     (extends_put c.put_bytes-2.result _ _ _ c.put_bytes-2.ensures.appended c.put_bytes-2.ensures.unchanged)

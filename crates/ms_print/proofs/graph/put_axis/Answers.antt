@@ -3,53 +3,32 @@ use Rattle.hp_num.specs.Right.{right_aligned}
 use Rattle.ms_print.specs.GraphText.{axis_text}
 use Rattle.std.proofs.lemmas.Result.{on_ok_weaker}
 use Rattle.hp_num.proofs.Laws.{extends_more, extends_put, extends_same, extends_trans}
-use Rattle.ms_print.proofs.Appends.{seven-appended}
+use Rattle.ms_print.proofs.Appends.{five-kept, four-kept, seven-appended, three-kept}
 use Rattle.ms_print.proofs.graph.put_axis.Goals as goal
 
 pub returns-in_err-put_bytes-2-clause-kept : goal.returns-in_err-put_bytes-2-clause-kept
 returns-in_err-put_bytes-2-clause-kept c =
-    extends_trans c.args.out.now.items c.put_dashes.new.out.items c.put_bytes-2.new.out.items
-    (extends_trans c.args.out.now.items c.put_bytes.new.out.items c.put_dashes.new.out.items
-    (extends_more c.args.out.now.items c.put_bytes.new.out.items _ c.in_ok-put_bytes.ensures.appended)
-    c.put_dashes.ensures.kept)
-    (extends_same c.put_dashes.new.out.items c.put_bytes-2.new.out.items c.in_err-put_bytes-2.ensures.unchanged)
+    three-kept _ _ _ _ (extends_more _ _ _ c.in_ok-put_bytes.ensures.appended) c.put_dashes.ensures.kept
+    (extends_same _ _ c.in_err-put_bytes-2.ensures.unchanged)
 
 pub returns-in_err-put_bytes-3-clause-kept : goal.returns-in_err-put_bytes-3-clause-kept
 returns-in_err-put_bytes-3-clause-kept c =
-    extends_trans c.args.out.now.items c.put_bytes-2.new.out.items c.put_bytes-3.new.out.items
-    (extends_trans c.args.out.now.items c.put_dashes.new.out.items c.put_bytes-2.new.out.items
-    (extends_trans c.args.out.now.items c.put_bytes.new.out.items c.put_dashes.new.out.items
-    (extends_more c.args.out.now.items c.put_bytes.new.out.items _ c.in_ok-put_bytes.ensures.appended)
-    c.put_dashes.ensures.kept)
-    (extends_more c.put_dashes.new.out.items c.put_bytes-2.new.out.items _ c.in_ok-put_bytes-2.ensures.appended))
-    (extends_same c.put_bytes-2.new.out.items c.put_bytes-3.new.out.items c.in_err-put_bytes-3.ensures.unchanged)
+    four-kept _ _ _ _ _ (extends_more _ _ _ c.in_ok-put_bytes.ensures.appended) c.put_dashes.ensures.kept
+    (extends_more _ _ _ c.in_ok-put_bytes-2.ensures.appended) (extends_same _ _ c.in_err-put_bytes-3.ensures.unchanged)
 
 pub returns-in_err-put_bytes-4-clause-kept : goal.returns-in_err-put_bytes-4-clause-kept
 returns-in_err-put_bytes-4-clause-kept c =
-    extends_trans c.args.out.now.items c.put_bytes-3.new.out.items c.put_bytes-4.new.out.items
-    (extends_trans c.args.out.now.items c.put_bytes-2.new.out.items c.put_bytes-3.new.out.items
-    (extends_trans c.args.out.now.items c.put_dashes.new.out.items c.put_bytes-2.new.out.items
-    (extends_trans c.args.out.now.items c.put_bytes.new.out.items c.put_dashes.new.out.items
-    (extends_more c.args.out.now.items c.put_bytes.new.out.items _ c.in_ok-put_bytes.ensures.appended)
-    c.put_dashes.ensures.kept)
-    (extends_more c.put_dashes.new.out.items c.put_bytes-2.new.out.items _ c.in_ok-put_bytes-2.ensures.appended))
-    (extends_more c.put_bytes-2.new.out.items c.put_bytes-3.new.out.items _ c.in_ok-put_bytes-3.ensures.appended))
-    (extends_same c.put_bytes-3.new.out.items c.put_bytes-4.new.out.items c.in_err-put_bytes-4.ensures.unchanged)
+    five-kept _ _ _ _ _ _ (extends_more _ _ _ c.in_ok-put_bytes.ensures.appended) c.put_dashes.ensures.kept
+    (extends_more _ _ _ c.in_ok-put_bytes-2.ensures.appended) (extends_more _ _ _ c.in_ok-put_bytes-3.ensures.appended)
+    (extends_same _ _ c.in_err-put_bytes-4.ensures.unchanged)
 
 pub returns-in_err-put_right-clause-kept : goal.returns-in_err-put_right-clause-kept
 returns-in_err-put_right-clause-kept c =
-    extends_trans c.args.out.now.items c.put_bytes-4.new.out.items c.put_right.new.out.items
-    (extends_trans c.args.out.now.items c.put_bytes-3.new.out.items c.put_bytes-4.new.out.items
-    (extends_trans c.args.out.now.items c.put_bytes-2.new.out.items c.put_bytes-3.new.out.items
-    (extends_trans c.args.out.now.items c.put_dashes.new.out.items c.put_bytes-2.new.out.items
-    (extends_trans c.args.out.now.items c.put_bytes.new.out.items c.put_dashes.new.out.items
-    (extends_more c.args.out.now.items c.put_bytes.new.out.items _ c.in_ok-put_bytes.ensures.appended)
-    c.put_dashes.ensures.kept)
-    (extends_more c.put_dashes.new.out.items c.put_bytes-2.new.out.items _
-    c.in_ok-put_bytes-2.ensures.appended))
-    (extends_more c.put_bytes-2.new.out.items c.put_bytes-3.new.out.items _ c.in_ok-put_bytes-3.ensures.appended))
-    (extends_more c.put_bytes-3.new.out.items c.put_bytes-4.new.out.items _ c.in_ok-put_bytes-4.ensures.appended))
-    (extends_same c.put_bytes-4.new.out.items c.put_right.new.out.items c.in_err-put_right.ensures.unchanged)
+    extends_trans _ _ _
+    (five-kept _ _ _ _ _ _ (extends_more _ _ _ c.in_ok-put_bytes.ensures.appended) c.put_dashes.ensures.kept
+    (extends_more _ _ _ c.in_ok-put_bytes-2.ensures.appended) (extends_more _ _ _ c.in_ok-put_bytes-3.ensures.appended)
+    (extends_more _ _ _ c.in_ok-put_bytes-4.ensures.appended))
+    (extends_same _ _ c.in_err-put_right.ensures.unchanged)
 
 pub returns-clause-appended : goal.returns-clause-appended
 unfolding axis_text
@@ -72,24 +51,15 @@ returns-in_err-put_dashes-clause-kept c =
 
 pub returns-in_err-label_of-clause-kept : goal.returns-in_err-label_of-clause-kept
 returns-in_err-label_of-clause-kept c =
-    extends_trans _ _ _
-    (extends_trans _ _ _
-    (extends_trans _ _ _
-    (extends_trans _ _ _ (extends_more _ _ _ c.in_ok-put_bytes.ensures.appended) c.put_dashes.ensures.kept)
-    (extends_more _ _ _ c.in_ok-put_bytes-2.ensures.appended))
-    (extends_more _ _ _ c.in_ok-put_bytes-3.ensures.appended))
+    five-kept _ _ _ _ _ _ (extends_more _ _ _ c.in_ok-put_bytes.ensures.appended) c.put_dashes.ensures.kept
+    (extends_more _ _ _ c.in_ok-put_bytes-2.ensures.appended) (extends_more _ _ _ c.in_ok-put_bytes-3.ensures.appended)
     (extends_more _ _ _ c.in_ok-put_bytes-4.ensures.appended)
 
 pub returns-clause-kept : goal.returns-clause-kept
 returns-clause-kept c =
-    extends_trans _ _ _
-    (extends_trans _ _ _
-    (extends_trans _ _ _
-    (extends_trans _ _ _
-    (extends_trans _ _ _
-    (extends_trans _ _ _ (extends_more _ _ _ c.in_ok-put_bytes.ensures.appended) c.put_dashes.ensures.kept)
-    (extends_more _ _ _ c.in_ok-put_bytes-2.ensures.appended))
-    (extends_more _ _ _ c.in_ok-put_bytes-3.ensures.appended))
+    three-kept _ _ _ _
+    (five-kept _ _ _ _ _ _ (extends_more _ _ _ c.in_ok-put_bytes.ensures.appended) c.put_dashes.ensures.kept
+    (extends_more _ _ _ c.in_ok-put_bytes-2.ensures.appended) (extends_more _ _ _ c.in_ok-put_bytes-3.ensures.appended)
     (extends_more _ _ _ c.in_ok-put_bytes-4.ensures.appended))
-    (extends_more _ _ _ c.in_ok-put_right.ensures.appended))
+    (extends_more _ _ _ c.in_ok-put_right.ensures.appended)
     (extends_put c.put_bytes-5.result _ _ _ c.put_bytes-5.ensures.appended c.put_bytes-5.ensures.unchanged)

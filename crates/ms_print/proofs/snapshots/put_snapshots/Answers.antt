@@ -2,7 +2,7 @@ use Rattle.std.proofs.Common.{length}
 use Rattle.std.specs.Prelude.{codes, decimal}
 use Rattle.std.proofs.lemmas.Result.{on_ok_weaker}
 use Rattle.ms_print.specs.SnapshotsText.{numbers_text, snapshots_text}
-use Rattle.ms_print.proofs.Appends.{five-appended}
+use Rattle.ms_print.proofs.Appends.{five-appended, five-kept, four-kept, three-kept}
 use Rattle.hp_num.proofs.Laws.{extends_more, extends_put, extends_same, extends_trans}
 use Rattle.ms_print.proofs.snapshots.put_snapshots.Goals as goal
 use Rattle.std.proofs.Common.{◌++◌, ℕ, ap, ◌∙◌}
@@ -20,36 +20,25 @@ returns-clause-appended c =
     c.in_ok-put_bytes-2.ensures.appended c.in_ok-put_numbers.ensures.appended added)
     c.put_bytes-3.ensures.appended
 
-pub returns-in_err-put_bytes-2-clause-kept : goal.returns-in_err-put_bytes-2-clause-kept
-returns-in_err-put_bytes-2-clause-kept c =
-    extends_trans c.args.out.now.items c.put_dec.new.out.items c.put_bytes-2.new.out.items
-    (extends_trans c.args.out.now.items c.put_bytes.new.out.items c.put_dec.new.out.items
-    (extends_more c.args.out.now.items c.put_bytes.new.out.items _ c.in_ok-put_bytes.ensures.appended)
-    (extends_more c.put_bytes.new.out.items c.put_dec.new.out.items _ c.in_ok-put_dec.ensures.appended))
-    (extends_same c.put_dec.new.out.items c.put_bytes-2.new.out.items c.in_err-put_bytes-2.ensures.unchanged)
-
-pub returns-in_err-put_numbers-clause-kept : goal.returns-in_err-put_numbers-clause-kept
-returns-in_err-put_numbers-clause-kept c =
-    extends_trans c.args.out.now.items c.put_bytes-2.new.out.items c.put_numbers.new.out.items
-    (extends_trans c.args.out.now.items c.put_dec.new.out.items c.put_bytes-2.new.out.items
-    (extends_trans c.args.out.now.items c.put_bytes.new.out.items c.put_dec.new.out.items
-    (extends_more c.args.out.now.items c.put_bytes.new.out.items _ c.in_ok-put_bytes.ensures.appended)
-    (extends_more c.put_bytes.new.out.items c.put_dec.new.out.items _ c.in_ok-put_dec.ensures.appended))
-    (extends_more c.put_dec.new.out.items c.put_bytes-2.new.out.items _ c.in_ok-put_bytes-2.ensures.appended))
-    c.put_numbers.ensures.kept
-
 pub returns-in_err-put_dec-clause-kept : goal.returns-in_err-put_dec-clause-kept
 returns-in_err-put_dec-clause-kept c =
     extends_trans _ _ _ (extends_more _ _ _ c.in_ok-put_bytes.ensures.appended)
     (extends_same _ _ c.in_err-put_dec.ensures.unchanged)
 
+pub returns-in_err-put_bytes-2-clause-kept : goal.returns-in_err-put_bytes-2-clause-kept
+returns-in_err-put_bytes-2-clause-kept c =
+    three-kept _ _ _ _ (extends_more _ _ _ c.in_ok-put_bytes.ensures.appended)
+    (extends_more _ _ _ c.in_ok-put_dec.ensures.appended) (extends_same _ _ c.in_err-put_bytes-2.ensures.unchanged)
+
+pub returns-in_err-put_numbers-clause-kept : goal.returns-in_err-put_numbers-clause-kept
+returns-in_err-put_numbers-clause-kept c =
+    four-kept _ _ _ _ _ (extends_more _ _ _ c.in_ok-put_bytes.ensures.appended)
+    (extends_more _ _ _ c.in_ok-put_dec.ensures.appended) (extends_more _ _ _ c.in_ok-put_bytes-2.ensures.appended)
+    c.put_numbers.ensures.kept
+
 pub returns-clause-kept : goal.returns-clause-kept
 returns-clause-kept c =
-    extends_trans _ _ _
-    (extends_trans _ _ _
-    (extends_trans _ _ _
-    (extends_trans _ _ _ (extends_more _ _ _ c.in_ok-put_bytes.ensures.appended)
-    (extends_more _ _ _ c.in_ok-put_dec.ensures.appended))
-    (extends_more _ _ _ c.in_ok-put_bytes-2.ensures.appended))
-    c.put_numbers.ensures.kept)
+    five-kept _ _ _ _ _ _ (extends_more _ _ _ c.in_ok-put_bytes.ensures.appended)
+    (extends_more _ _ _ c.in_ok-put_dec.ensures.appended) (extends_more _ _ _ c.in_ok-put_bytes-2.ensures.appended)
+    c.put_numbers.ensures.kept
     (extends_put c.put_bytes-3.result _ _ _ c.put_bytes-3.ensures.appended c.put_bytes-3.ensures.unchanged)

@@ -4,7 +4,7 @@ use Rattle.std.proofs.lemmas.Result.{on_ok_weaker}
 use Rattle.hp_num.specs.Right.{right_aligned}
 use Rattle.hp_num.proofs.Laws.{extends_more, extends_same, extends_trans}
 use Rattle.ms_print.specs.TableText.{head_text, rule_line, time_head}
-use Rattle.ms_print.proofs.Appends.{five-appended, four-appended}
+use Rattle.ms_print.proofs.Appends.{five-appended, four-appended, four-kept, three-kept}
 use Rattle.ms_print.proofs.table.put_head.Goals as goal
 
 pub returns-clause-appended : goal.returns-clause-appended
@@ -37,14 +37,10 @@ returns-in_err-put_bytes-clause-kept c =
 
 pub returns-in_err-put_right-clause-kept : goal.returns-in_err-put_right-clause-kept
 returns-in_err-put_right-clause-kept c =
-    extends_trans _ _ _
-    (extends_trans _ _ _ c.put_rule.ensures.kept (extends_more _ _ _ c.in_ok-put_bytes.ensures.appended))
+    three-kept _ _ _ _ c.put_rule.ensures.kept (extends_more _ _ _ c.in_ok-put_bytes.ensures.appended)
     (extends_same _ _ c.in_err-put_right.ensures.unchanged)
 
 pub returns-in_err-put_bytes-2-clause-kept : goal.returns-in_err-put_bytes-2-clause-kept
 returns-in_err-put_bytes-2-clause-kept c =
-    extends_trans _ _ _
-    (extends_trans _ _ _
-    (extends_trans _ _ _ c.put_rule.ensures.kept (extends_more _ _ _ c.in_ok-put_bytes.ensures.appended))
-    (extends_more _ _ _ c.in_ok-put_right.ensures.appended))
-    (extends_same _ _ c.in_err-put_bytes-2.ensures.unchanged)
+    four-kept _ _ _ _ _ c.put_rule.ensures.kept (extends_more _ _ _ c.in_ok-put_bytes.ensures.appended)
+    (extends_more _ _ _ c.in_ok-put_right.ensures.appended) (extends_same _ _ c.in_err-put_bytes-2.ensures.unchanged)

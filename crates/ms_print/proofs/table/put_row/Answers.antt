@@ -4,7 +4,7 @@ use Rattle.std.proofs.lemmas.Result.{on_ok_weaker}
 use Rattle.ms_print.specs.Sums.{sum_of}
 use Rattle.ms_print.specs.TableText.{column_text, number_column, snap_row}
 use Rattle.hp_num.proofs.Laws.{extends_put, extends_trans}
-use Rattle.ms_print.proofs.Appends.{seven-appended}
+use Rattle.ms_print.proofs.Appends.{five-kept, four-kept, seven-appended, three-kept}
 use Rattle.ms_print.proofs.table.put_row.Goals as goal
 
 pub returns-clause-appended : goal.returns-clause-appended
@@ -29,45 +29,29 @@ returns-in_err-put_column-clause-kept c = extends_trans _ _ _ c.put_number.ensur
 
 pub returns-in_err-put_column-2-clause-kept : goal.returns-in_err-put_column-2-clause-kept
 returns-in_err-put_column-2-clause-kept c =
-    extends_trans _ _ _ (extends_trans _ _ _ c.put_number.ensures.kept c.put_column.ensures.kept)
-    c.put_column-2.ensures.kept
+    three-kept _ _ _ _ c.put_number.ensures.kept c.put_column.ensures.kept c.put_column-2.ensures.kept
 
 pub returns-in_err-put_column-3-clause-kept : goal.returns-in_err-put_column-3-clause-kept
 returns-in_err-put_column-3-clause-kept c =
-    extends_trans _ _ _
-    (extends_trans _ _ _ (extends_trans _ _ _ c.put_number.ensures.kept c.put_column.ensures.kept)
-    c.put_column-2.ensures.kept)
+    four-kept _ _ _ _ _ c.put_number.ensures.kept c.put_column.ensures.kept c.put_column-2.ensures.kept
     c.put_column-3.ensures.kept
 
 pub returns-in_err-put_column-4-clause-kept : goal.returns-in_err-put_column-4-clause-kept
 returns-in_err-put_column-4-clause-kept c =
-    extends_trans _ _ _
-    (extends_trans _ _ _
-    (extends_trans _ _ _ (extends_trans _ _ _ c.put_number.ensures.kept c.put_column.ensures.kept)
-    c.put_column-2.ensures.kept)
-    c.put_column-3.ensures.kept)
-    c.put_column-4.ensures.kept
+    five-kept _ _ _ _ _ _ c.put_number.ensures.kept c.put_column.ensures.kept c.put_column-2.ensures.kept
+    c.put_column-3.ensures.kept c.put_column-4.ensures.kept
 
 pub returns-in_err-put_column-5-clause-kept : goal.returns-in_err-put_column-5-clause-kept
 returns-in_err-put_column-5-clause-kept c =
     extends_trans _ _ _
-    (extends_trans _ _ _
-    (extends_trans _ _ _
-    (extends_trans _ _ _ (extends_trans _ _ _ c.put_number.ensures.kept c.put_column.ensures.kept)
-    c.put_column-2.ensures.kept)
-    c.put_column-3.ensures.kept)
-    c.put_column-4.ensures.kept)
+    (five-kept _ _ _ _ _ _ c.put_number.ensures.kept c.put_column.ensures.kept c.put_column-2.ensures.kept
+    c.put_column-3.ensures.kept c.put_column-4.ensures.kept)
     c.put_column-5.ensures.kept
 
 pub returns-clause-kept : goal.returns-clause-kept
 returns-clause-kept c =
-    extends_trans _ _ _
-    (extends_trans _ _ _
-    (extends_trans _ _ _
-    (extends_trans _ _ _
-    (extends_trans _ _ _ (extends_trans _ _ _ c.put_number.ensures.kept c.put_column.ensures.kept)
-    c.put_column-2.ensures.kept)
-    c.put_column-3.ensures.kept)
-    c.put_column-4.ensures.kept)
-    c.put_column-5.ensures.kept)
+    three-kept _ _ _ _
+    (five-kept _ _ _ _ _ _ c.put_number.ensures.kept c.put_column.ensures.kept c.put_column-2.ensures.kept
+    c.put_column-3.ensures.kept c.put_column-4.ensures.kept)
+    c.put_column-5.ensures.kept
     (extends_put c.put_bytes.result _ _ _ c.put_bytes.ensures.appended c.put_bytes.ensures.unchanged)

@@ -1,4 +1,5 @@
 use Rattle.hp_num.proofs.Laws.{extends_more, extends_put, extends_same, extends_trans}
+use Rattle.ms_print.proofs.Appends.{four-kept, three-kept}
 use Rattle.ms_print.proofs.tree.put_line.Goals as goal
 
 pub returns-in_err-put_bytes-2-clause-kept : goal.returns-in_err-put_bytes-2-clause-kept
@@ -8,16 +9,11 @@ returns-in_err-put_bytes-2-clause-kept c =
 
 pub returns-in_err-put_what-clause-kept : goal.returns-in_err-put_what-clause-kept
 returns-in_err-put_what-clause-kept c =
-    extends_trans _ _ _
-    (extends_trans _ _ _ (extends_more _ _ _ c.in_ok-put_bytes.ensures.appended)
-    (extends_more _ _ _ c.in_ok-put_bytes-2.ensures.appended))
-    c.put_what.ensures.kept
+    three-kept _ _ _ _ (extends_more _ _ _ c.in_ok-put_bytes.ensures.appended)
+    (extends_more _ _ _ c.in_ok-put_bytes-2.ensures.appended) c.put_what.ensures.kept
 
 pub returns-clause-kept : goal.returns-clause-kept
 returns-clause-kept c =
-    extends_trans _ _ _
-    (extends_trans _ _ _
-    (extends_trans _ _ _ (extends_more _ _ _ c.in_ok-put_bytes.ensures.appended)
-    (extends_more _ _ _ c.in_ok-put_bytes-2.ensures.appended))
-    c.put_what.ensures.kept)
+    four-kept _ _ _ _ _ (extends_more _ _ _ c.in_ok-put_bytes.ensures.appended)
+    (extends_more _ _ _ c.in_ok-put_bytes-2.ensures.appended) c.put_what.ensures.kept
     (extends_put c.put_bytes-3.result _ _ _ c.put_bytes-3.ensures.appended c.put_bytes-3.ensures.unchanged)
