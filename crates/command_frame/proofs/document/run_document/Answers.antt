@@ -14,7 +14,7 @@ returns-in-Ok-report g c =
     c.in-Ok-report.ensures.output)))
     (λ four. omega (arith, four))
 
-pub returns : goal.returns
-returns g c = λ out.
+pub returns-in-Err-report : goal.returns-in-Err-report
+returns-in-Err-report g c = λ out.
     runs_to_judgement _ _ _ _ _ _ _ _ c.in-Ok.ensures.read
     (c.refused.ensures.judges _ c.in-Err-report.ensures.fault) c.refused.ensures.write
