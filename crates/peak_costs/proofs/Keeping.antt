@@ -119,22 +119,12 @@ pub kept-saved :
     (stamps_after stamps mark.counter stack) mark
 kept-saved old new saved blocks stamps mark stack kept sound moved held =
     let stacks : new.stacks ≡ old.stacks = moved.stacks in
+    let saved_same = saved-length saved stamps mark.counter stack (figures_at old stack).live in
+    let blocks_same = saved-length blocks stamps mark.counter stack (figures_at old stack).blocks in
     record {
       sound = sound;
-      saved_long =
-          omega (
-            arith,
-            kept.saved_long,
-            stacks,
-            saved-length saved stamps mark.counter stack (figures_at old stack).live,
-          );
-      blocks_long =
-          omega (
-            arith,
-            kept.blocks_long,
-            stacks,
-            saved-length blocks stamps mark.counter stack (figures_at old stack).blocks,
-          );
+      saved_long = omega (arith, kept.saved_long, stacks, saved_same);
+      blocks_long = omega (arith, kept.blocks_long, stacks, blocks_same);
       stamps_long = omega (arith, kept.stamps_long, stacks, stamps-length stamps mark.counter stack);
       stamps_past =
           λ n past. stamps-others stamps mark.counter stack n (λ is. omega arith) ∙ kept.stamps_past n (omega arith);
@@ -232,25 +222,7 @@ stack-in ledger (Free info s size) stack sound held own =
     (let below = sound.stack_held info (record { stack = s; size = size }) held in omega (arith, own))
 stack-in ledger (Tick ms) stack sound held own = absurd own
 
--- the fields keep their promise over an event
-pub kept-moved :
-    (old new : LedgerState) (saved blocks stamps : List ℕ) (mark : Mark) (event : Event) (stack : ℕ)
-    → AreKept old saved blocks stamps mark
-    → ledger_sound.IsSound new
-    → Changes old new event
-    → IsIn stack event
-    → IsHeld old event
-    → AreKept new (saved_after saved stamps mark.counter stack (figures_at old stack).live)
-    (saved_after blocks stamps mark.counter stack (figures_at old stack).blocks)
-    (stamps_after stamps mark.counter stack) (raised mark new.totals.live new.totals.events)
-kept-moved old new saved blocks stamps mark event stack kept sound changes own held =
-    let moved = moved-by old new event stack changes own in
-    kept-raised new _ _ _ mark
-    (kept-saved old new saved blocks stamps mark stack kept sound moved
-    (stack-in old event stack kept.sound held own))
-    (omega (arith, kept.counter_within, moved.events))
-
--- and none is above the mark then
+-- the fields keep their promise over an event, and none is above the mark then
 pub marked-moved :
     (old new : LedgerState) (saved blocks stamps : List ℕ) (mark : Mark) (event : Event) (stack : ℕ)
     → AreKept old saved blocks stamps mark
@@ -261,10 +233,16 @@ pub marked-moved :
     → AreMarked new (saved_after saved stamps mark.counter stack (figures_at old stack).live)
     (saved_after blocks stamps mark.counter stack (figures_at old stack).blocks)
     (stamps_after stamps mark.counter stack) (raised mark new.totals.live new.totals.events)
-marked-moved old new saved blocks stamps mark event stack kept sound changes own held = record {
-  kept = kept-moved old new saved blocks stamps mark event stack kept sound changes own held;
-  live_within = raised-within mark new.totals.live new.totals.events;
-}
+marked-moved old new saved blocks stamps mark event stack kept sound changes own held =
+    let moved = moved-by old new event stack changes own in
+    record {
+      kept =
+          kept-raised new _ _ _ mark
+          (kept-saved old new saved blocks stamps mark stack kept sound moved
+          (stack-in old event stack kept.sound held own))
+          (omega (arith, kept.counter_within, moved.events));
+      live_within = raised-within mark new.totals.live new.totals.events;
+    }
 
 -- what contracts see of kept fields is sound
 pub sound-of : (ledger : LedgerState) (saved blocks stamps : List ℕ) (mark : Mark)
@@ -290,9 +268,9 @@ shares-infos f old new saved stamps counter stacks figures =
     ∙ ap (λ (xs : List Figures). shares_of old.stacks (map f xs) saved stamps counter) figures
 
 -- a share is within the total
-pub share-within : (state : PeakState) (stack : ℕ) → IsSound state → stack < state.ledger.stacks
-    → slice_index state.shares stack ≤ state.total
-share-within state stack sound held =
+pub share-within : (state : PeakState) (stack share : ℕ) → IsSound state → stack < state.ledger.stacks
+    → share ≡ slice_index state.shares stack → share ≤ state.total
+share-within state stack share sound held is =
     omega (
       arith,
       get_or-le-sum_by (λ (n : ℕ). n) state.shares stack 0 (omega (arith, sound.shares_held)),

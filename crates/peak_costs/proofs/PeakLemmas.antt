@@ -233,15 +233,16 @@ pub record Rises (old new : PeakState) : Type 0 where
   pub block_shares : new.block_shares ≡ blocks_list new.ledger
   pub above : old.total < new.ledger.totals.live
 
--- peaks that stay stand for the events with one more
-pub stands-stays :
-    (old new : PeakState) (events : List Event) (event : Event)
-    → is_counted event ≡ true
-    → StandsFor old events
-    → ledger_spec.StandsFor new.ledger (events ++ event ∷ [])
-    → Stays old new
+-- peaks that stood for the events stand for them with one more that counts
+abbrev StandsOn : PeakState → PeakState → List Event → Event → Type 0
+StandsOn old new events event =
+    is_counted event ≡ true → StandsFor old events → ledger_spec.StandsFor new.ledger (events ++ event ∷ [])
     → StandsFor new (events ++ event ∷ [])
-stands-stays old new events event is stands now stays =
+
+-- peaks that stay stand for the events with one more
+pub stands-stays : (old new : PeakState) (events : List Event) (event : Event) → Stays old new
+    → StandsOn old new events event
+stands-stays old new events event stays = λ is stands now.
     let after : List Event = events ++ event ∷ [] in
     let p : ℕ = old.moment in
     let same : first_events p after ≡ first_events p events = first-before p events event is stands.peak.within in
@@ -266,14 +267,9 @@ stands-stays old new events event is stands now stays =
     }
 
 -- peaks that rise stand for the events with one more
-pub stands-rises :
-    (old new : PeakState) (events : List Event) (event : Event)
-    → is_counted event ≡ true
-    → StandsFor old events
-    → ledger_spec.StandsFor new.ledger (events ++ event ∷ [])
-    → Rises old new
-    → StandsFor new (events ++ event ∷ [])
-stands-rises old new events event is stands now rises =
+pub stands-rises : (old new : PeakState) (events : List Event) (event : Event) → Rises old new
+    → StandsOn old new events event
+stands-rises old new events event rises = λ is stands now.
     let after : List Event = events ++ event ∷ [] in
     let all : first_events new.moment after ≡ counted after =
     first-all new.moment after (rises.moment ∙ now.whole.figures.events_is) in
@@ -304,6 +300,13 @@ counted-in stack (Alloc i s z) own = refl
 counted-in stack (Free i s z) own = refl
 counted-in stack (Tick ms) own = absurd own
 
+-- what contracts see of the fields after an event of a stack whose figures are saved before
+abbrev pub moved_state : LedgerState → LedgerState → List ℕ → List ℕ → List ℕ → Mark → ℕ → PeakState
+moved_state old new saved blocks stamps mark stack =
+    state_of new (saved_after saved stamps mark.counter stack (figures_at old stack).live)
+    (saved_after blocks stamps mark.counter stack (figures_at old stack).blocks)
+    (stamps_after stamps mark.counter stack) (raised mark new.totals.live new.totals.events)
+
 -- the fields stand for the events with one more, of a stack whose figures were saved before
 pub stands-moved :
     (old new : LedgerState) (saved blocks stamps : List ℕ) (mark : Mark) (stack : ℕ) (events : List Event)
@@ -317,11 +320,7 @@ pub stands-moved :
     → is_counted event ≡ true
     → StandsFor (state_of old saved blocks stamps mark) events
     → ledger_spec.StandsFor new (events ++ event ∷ [])
-    → StandsFor
-    (state_of new (saved_after saved stamps mark.counter stack (figures_at old stack).live)
-    (saved_after blocks stamps mark.counter stack (figures_at old stack).blocks)
-    (stamps_after stamps mark.counter stack) (raised mark new.totals.live new.totals.events))
-    (events ++ event ∷ [])
+    → StandsFor (moved_state old new saved blocks stamps mark stack) (events ++ event ∷ [])
 stands-moved old new saved blocks stamps mark stack events event kept now moved held is stands stands_now =
     let in_saved : stack < length saved = omega (arith, kept.saved_long) in
     let in_blocks : stack < length blocks = omega (arith, kept.blocks_long) in
@@ -334,7 +333,7 @@ stands-moved old new saved blocks stamps mark stack events event kept now moved 
           subst (λ (m : Mark). StandsFor (state_of new saved_now blocks_now stamps_now m) (events ++ event ∷ []))
           (sym stays.0)
           (stands-stays (state_of old saved blocks stamps mark) (state_of new saved_now blocks_now stamps_now mark)
-          events event is stands stands_now
+          events event
           (record {
             total = refl;
             moment = refl;
@@ -345,14 +344,15 @@ stands-moved old new saved blocks stamps mark stack events event kept now moved 
                 shares-kept (λ (f : Figures). f.blocks) old new blocks stamps mark.counter stack refl moved in_blocks
                 in_stamps;
             below = stays.1;
-          }))
+          })
+          is stands stands_now)
       | inr rises ↦
           subst (λ (m : Mark). StandsFor (state_of new saved_now blocks_now stamps_now m) (events ++ event ∷ []))
           (sym rises.0)
           (stands-rises (state_of old saved blocks stamps mark)
           (state_of new saved_now blocks_now stamps_now
           (record { total = new.totals.live; moment = new.totals.events; counter = mark.counter + 1 }))
-          events event is stands stands_now
+          events event
           (record {
             total = refl;
             moment = refl;
@@ -363,7 +363,8 @@ stands-moved old new saved blocks stamps mark stack events event kept now moved 
                 shares-new_peak (λ (f : Figures). f.blocks) new blocks_now stamps_now mark.counter now.sound.stacks
                 now.stamps_within;
             above = rises.1;
-          }))
+          })
+          is stands stands_now)
     ]
 
 -- and over an event of the stack
@@ -377,11 +378,7 @@ pub stands-event :
     → IsHeld old event
     → StandsFor (state_of old saved blocks stamps mark) events
     → ledger_spec.StandsFor new (events ++ event ∷ [])
-    → StandsFor
-    (state_of new (saved_after saved stamps mark.counter stack (figures_at old stack).live)
-    (saved_after blocks stamps mark.counter stack (figures_at old stack).blocks)
-    (stamps_after stamps mark.counter stack) (raised mark new.totals.live new.totals.events))
-    (events ++ event ∷ [])
+    → StandsFor (moved_state old new saved blocks stamps mark stack) (events ++ event ∷ [])
 stands-event old new saved blocks stamps mark stack events event kept sound changes own held stands stands_now =
     let moved = moved-by old new event stack changes own in
     let inside = stack-in old event stack kept.sound held own in

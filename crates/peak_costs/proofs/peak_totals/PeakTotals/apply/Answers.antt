@@ -1,4 +1,4 @@
-use Rattle.live_ledger.specs.declared.event.Event.TheVariants.{Alloc, Free, Tick}
+use Rattle.live_ledger.specs.declared.event.Event.TheVariants.{Alloc}
 use Rattle.peak_costs.proofs.TotalsLemmas.{mark-moved, totals-moved}
 use Rattle.peak_costs.proofs.peak_totals.PeakTotals.apply.Goals as goal
 
@@ -12,20 +12,17 @@ invariant_of-self-in-Alloc c =
 pub returns-in-Alloc-clause-stands : goal.returns-in-Alloc-clause-stands
 returns-in-Alloc-clause-stands c =
     rw (← c.self.view_is, c.raise.ensures, c.totals-totals.ensures.value, c.in_ok-apply.ensures.after, c.in-Alloc.is)
-    (λ events stands. totals-moved c.self.inside.ledger c.self.inside.mark events
-    (Alloc c.in-Alloc.info c.in-Alloc.stack c.in-Alloc.size) c.self.invariant stands
+    (λ events stands. totals-moved _ _ events _ c.self.invariant stands
     (rw (c.in_ok-apply.ensures.after, c.in-Alloc.is) at (c.in_ok-apply.ensures.stands events stands.ledger)))
 
 pub returns-in-Free-clause-stands : goal.returns-in-Free-clause-stands
 returns-in-Free-clause-stands c =
     rw (← c.self.view_is, c.in_ok-apply.ensures.after, c.in-Free.is)
-    (λ events stands. totals-moved c.self.inside.ledger c.self.inside.mark events
-    (Free c.in-Free.info c.in-Free.stack c.in-Free.size) c.self.invariant stands
+    (λ events stands. totals-moved _ _ events _ c.self.invariant stands
     (rw (c.in_ok-apply.ensures.after, c.in-Free.is) at (c.in_ok-apply.ensures.stands events stands.ledger)))
 
 pub returns-in-Tick-clause-stands : goal.returns-in-Tick-clause-stands
 returns-in-Tick-clause-stands c =
     rw (← c.self.view_is, c.in_ok-apply.ensures.after, c.in-Tick.is)
-    (λ events stands. totals-moved c.self.inside.ledger c.self.inside.mark events (Tick c.in-Tick.ms) c.self.invariant
-    stands
+    (λ events stands. totals-moved _ _ events _ c.self.invariant stands
     (rw (c.in_ok-apply.ensures.after, c.in-Tick.is) at (c.in_ok-apply.ensures.stands events stands.ledger)))

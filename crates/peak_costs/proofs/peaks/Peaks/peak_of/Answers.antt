@@ -1,4 +1,4 @@
-use Rattle.std.proofs.Common.{◌≡◌, ◌∙◌, refl, sym, subst, ◌≤◌, ℕ}
+use Rattle.std.proofs.Common.{◌≡◌, ◌∙◌, refl, sym}
 use Rattle.std.specs.Prelude.{slice_index}
 use Rattle.live_ledger.specs.declared.figures.Figures.{Figures}
 use Rattle.peak_costs.specs.PeakState.{IsSound}
@@ -17,9 +17,7 @@ returns-then-at-self c =
     record {
       value = value;
       share = λ events stands. value ∙ stands.shares c.args.stack;
-      within =
-          subst (λ (n : ℕ). n ≤ c.args.self.now.total) (sym value)
-          (share-within c.args.self.now c.args.stack is_sound c.requires);
+      within = share-within c.args.self.now c.args.stack _ is_sound c.requires value;
     }
 
 pub returns-else-at-self : goal.returns-else-at-self
@@ -33,7 +31,5 @@ returns-else-at-self c =
     record {
       value = value;
       share = λ events stands. value ∙ stands.shares c.args.stack;
-      within =
-          subst (λ (n : ℕ). n ≤ c.args.self.now.total) (sym value)
-          (share-within c.args.self.now c.args.stack is_sound c.requires);
+      within = share-within c.args.self.now c.args.stack _ is_sound c.requires value;
     }

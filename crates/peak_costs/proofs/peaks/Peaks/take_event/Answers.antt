@@ -1,5 +1,5 @@
 use Rattle.std.proofs.Common.{sym, rules, ◌∙◌}
-use Rattle.peak_costs.proofs.Keeping.{freed-within, kept-moved, marked-moved, sound-of}
+use Rattle.peak_costs.proofs.Keeping.{freed-within, marked-moved, sound-of}
 use Rattle.peak_costs.proofs.PeakLemmas.{stands-event}
 use Rattle.peak_costs.proofs.peaks.Peaks.take_event.Goals as goal
 
@@ -47,8 +47,8 @@ returns-then-has-clause-sound g c =
     let is = sym c.has.ensures ∙ c.if-has.true in
     let moved =
     sound-of _ _ _ _ _
-    (kept-moved _ _ _ _ _ _ c.args.event c.args.stack c.self.invariant.kept c.in_ok-apply.ensures.sound
-    c.in_ok-apply.ensures.taken.changes c.requires.own held) in
+    (marked-moved _ _ _ _ _ _ c.args.event c.args.stack c.self.invariant.kept c.in_ok-apply.ensures.sound
+    c.in_ok-apply.ensures.taken.changes c.requires.own held).kept in
     rw c.follow.ensures (rw is at moved)
 
 pub follow-requires-2-clause-freed : goal.follow-requires-2-clause-freed
@@ -101,8 +101,8 @@ returns-clause-sound g c =
     let is = sym c.has.ensures ∙ c.if-has.false in
     let moved =
     sound-of _ _ _ _ _
-    (kept-moved _ _ _ _ _ _ c.args.event c.args.stack c.self.invariant.kept c.in_ok-apply-2.ensures.sound
-    c.in_ok-apply-2.ensures.taken.changes c.requires.own held) in
+    (marked-moved _ _ _ _ _ _ c.args.event c.args.stack c.self.invariant.kept c.in_ok-apply-2.ensures.sound
+    c.in_ok-apply-2.ensures.taken.changes c.requires.own held).kept in
     rw (
       c.save.ensures.saved,
       c.save.ensures.blocks,
