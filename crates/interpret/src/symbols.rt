@@ -1,9 +1,9 @@
 //! The symbols of a table by module and range. What one line says is the part of `symbol_line`.
-ghost use Rattle.std.specs.Prelude.{◌≡◌, ◌<◌, [], ◌∷◌, ◌++◌, find, slice_get, None, Some, IfErr, IfNone, IfSome, OnOk, OnErr};
+ghost use Rattle.std.specs.Prelude.{◌≡◌, ◌<◌, [], ◌∷◌, ◌++◌, slice_get, None, Some, IfErr, IfNone, IfSome, OnOk, OnErr};
 ghost use Rattle.std.specs.Option.{option_copied, option_map, option_to_list};
 ghost use Rattle.std.specs.List.{list_any};
 ghost use Rattle.interpret.specs.SymbolLine.{fields};
-ghost use Rattle.interpret.specs.SymbolEntries.{AreIndexed, HasNone, IsLast, holds_offset, meets_range, said_by};
+ghost use Rattle.interpret.specs.SymbolEntries.{AreIndexed, HasNone, IsLast, meets_range, said_by};
 ghost use Rattle.interpret.specs.SymbolList.{StandForMore, Tells, fault_after, is_skipped, symbol_fault, symbol_in, texts_at};
 
 use crate::fault::SymbolFault;
@@ -91,8 +91,11 @@ impl Symbols {
             ≡ texts_at self.now name.now offset }
     {
         let module_number = self.module_names.find(name)?;
-        let entry = entry_at(&self.entries, &self.starts, module_number, offset)?;
-        Some(entry.texts.bytes())
+        let last = last_entry(&self.entries, &self.starts, module_number, offset)?;
+        if offset >= last.end {
+            return None;
+        }
+        Some(last.texts.bytes())
     }
 
     /// Adds the symbol of a line.
@@ -165,23 +168,6 @@ fn meets_any(
         Some(last) => start < last.end,
         None => false,
     }
-}
-
-/// The symbol that holds an offset of a module.
-fn entry_at<'a>(
-    entries: &'a [SymbolEntry],
-    starts: &StartIndex,
-    module_number: usize,
-    offset: u64,
-) -> Option<&'a SymbolEntry>
-    requires indexed { AreIndexed entries.now starts.now }
-    ensures { option_copied result ≡ find (holds_offset module_number offset) entries.now }
-{
-    let last = last_entry(entries, starts, module_number, offset)?;
-    if offset >= last.end {
-        return None;
-    }
-    Some(last)
 }
 
 /// Whether a line says nothing: it is empty or a comment.
