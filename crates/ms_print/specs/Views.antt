@@ -13,15 +13,12 @@ use Rattle.ms_print.specs.Pendings.{AreRoots, entry_bytes, entry_children, entry
 use Rattle.ms_print.specs.Shown.{beside, kept, shown}
 use Rattle.ms_print.specs.TreeText.{entries_text, entry_line}
 
--- what is shown below an entry; what stands below the line at this place, and what of it is shown
+-- what is shown below an entry, and what stands below the line at this place
 abbrev pub below : TreeView → Entry → Trees
 below view entry = entry_children view.scale view.tree.now entry
 
 abbrev pub children_of : TreeView → ℕ → Trees
 children_of view place = children_at view.tree.now place
-
-abbrev pub shown_at : TreeView → ℕ → Trees
-shown_at view place = shown view.scale (children_of view place)
 
 -- what is pending are the roots of these trees
 abbrev pub AreRootsIn : TreeView → ℕ → List Pending → Trees → Type 0

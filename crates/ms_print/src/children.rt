@@ -3,7 +3,7 @@ ghost use Rattle.std.specs.Prelude.{◌≡◌, ◌+◌, ◌-◌, ◌<◌, ◌^�
 ghost use Rattle.ms_print.specs.Appends.{Appends};
 ghost use Rattle.ms_print.specs.Ends.{AreEnds, AreWhole};
 ghost use Rattle.ms_print.specs.Pendings.{AreSmall, IsHeld, pending_gathered};
-ghost use Rattle.ms_print.specs.Views.{AreKeptIn, AreRootsIn, below, children_of, shown_at};
+ghost use Rattle.ms_print.specs.Views.{AreKeptIn, AreRootsIn, below, children_of};
 
 use crate::entry::Scale;
 use hp_num::NoMemory;
@@ -45,6 +45,7 @@ pub(crate) struct Pending {
 }
 
 /// Puts the entries below an entry into `children`, in their order.
+#[tactic(auto, unfolding(crate::specs::Shown::shown))]
 pub(crate) fn children_into(
     view: &TreeView,
     entry: Entry,
@@ -59,28 +60,12 @@ pub(crate) fn children_into(
 {
     children.clear();
     match entry {
-        Entry::Line(place) => push_children(view, place, indent, children),
+        Entry::Line(place) => {
+            let gathered = split_children(view, place, indent, children)?;
+            push_gathered(indent, gathered, children)
+        }
         Entry::Gathered(_) => Ok(()),
     }
-}
-
-/// Appends the entries below the line at this place to none.
-#[tactic(auto, unfolding(crate::specs::Shown::shown))]
-fn push_children(
-    view: &TreeView,
-    place: usize,
-    indent: usize,
-    children: &mut Vec<Pending>,
-) -> Result<(), NoMemory>
-    requires whole { AreWhole view.now.tree.now }
-    requires ends { AreEnds view.now.tree.now 0 view.now.ends.now }
-    requires held { place < length view.now.tree.now }
-    requires empty { children.old.items ≡ [] }
-    ensures roots { OnOk result
-        (AreRootsIn view.now indent children.new.items (shown_at view.now place)) }
-{
-    let gathered = split_children(view, place, indent, children)?;
-    push_gathered(indent, gathered, children)
 }
 
 /// Appends the children that are shown by themselves to none, and gathers the others.
