@@ -20,11 +20,11 @@ pub(crate) struct Branches {
     pub(crate) edges: Vec<Edge>,
     pub(crate) nodes: Vec<CostNode>,
     /// How many texts a node's front has.
-    pub(crate) levels: Vec<usize>,
+    levels: Vec<usize>,
     /// For each node of the shape one more than its node's number, and 0 where it has none.
-    pub(crate) numbered: Vec<usize>,
+    numbered: Vec<usize>,
     /// What a list still needs of the shape's nodes, the next one last.
-    pub(crate) path: Vec<usize>,
+    path: Vec<usize>,
 }
 
 impl Branches {

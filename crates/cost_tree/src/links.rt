@@ -11,13 +11,13 @@ use hp_num::NoMemory;
 /// What is read of a node.
 #[derive(Clone, Copy)]
 pub(crate) struct Link {
-    pub(crate) cost: u64,
+    cost: u64,
     /// The number of the last text of its front; 0 at node 0.
-    pub(crate) text: usize,
+    text: usize,
     /// 0 where it has no child.
-    pub(crate) first_child: usize,
+    first_child: usize,
     /// The next child of its parent; 0 where there is none.
-    pub(crate) next_sibling: usize,
+    next_sibling: usize,
 }
 
 /// The links of all nodes, by their numbers.
