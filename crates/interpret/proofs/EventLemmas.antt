@@ -12,10 +12,9 @@ use Rattle.interpret.specs.RawBlocks.{RawBlock, held}
 use Rattle.interpret.specs.RawContents.{IsRaw}
 use Rattle.interpret.specs.RawTables.{info_number, infos}
 use Rattle.interpret.specs.SymbolLine.{Symbol}
-use Rattle.interpret.proofs.LedgerLemmas.{AreTold, IsQuiet, alloc-event, event_behind, events-append, free-event}
-use Rattle.interpret.proofs.LedgerLemmas.{interpreted-push, node-quiet, quiet-events, told-none, told-step}
+use Rattle.interpret.proofs.LedgerLemmas.{AreTold, IsQuiet, alloc-event, events-push, free-event}
+use Rattle.interpret.proofs.LedgerLemmas.{node-quiet, quiet-events, told-none, told-step}
 use Rattle.interpret.proofs.PointerLemmas.{held-push}
-use Rattle.ht_trace.specs.Gathered.{gathered}
 
 told-more : (symbols : List Symbol) (earlier said : List Content) → AreTold symbols earlier → AllByRecursion IsRaw said
     → AreTold symbols (earlier ++ said)
@@ -26,15 +25,6 @@ told-more symbols earlier (c ∷ said) are raw =
 
 are-told : (symbols : List Symbol) (said : List Content) → AllByRecursion IsRaw said → AreTold symbols said
 are-told symbols said raw = told-more symbols [] said (told-none symbols) raw
-
-events-more : (symbols : List Symbol) (said : List Content) (c : Content)
-    → interpreted_events symbols (said ++ c ∷ [])
-    ≡ interpreted_events symbols said
-    ++ gathered event_behind (interpreted_said symbols said) (told_after symbols said c)
-unfolding interpreted_events
-events-more symbols said c =
-    ap events_said (interpreted-push symbols said c)
-    ∙ events-append (interpreted_said symbols said) (told_after symbols said c)
 
 -- no line, no event
 pub events-none : (symbols : List Symbol) → interpreted_events symbols [] ≡ []
@@ -48,7 +38,7 @@ pub event-allocated : (symbols : List Symbol) (said : List Content) (size trace 
     ≡ interpreted_events symbols said ++ Alloc info trace size ∷ [])
 event-allocated symbols said size trace ptr raw = (
   info_number (infos (said ++ raw_allocation_line size trace ptr ∷ [])) (record { size = size; trace = trace }),
-  events-more symbols said (raw_allocation_line size trace ptr)
+  events-push symbols said (raw_allocation_line size trace ptr)
       ∙ ap (λ (l : List Event). interpreted_events symbols said ++ l)
       (alloc-event symbols said size trace ptr (are-told symbols said raw)),
 )
@@ -61,7 +51,7 @@ pub event-freed : (symbols : List Symbol) (said : List Content) (ptr : ℕ) (blo
     ≡ interpreted_events symbols said ++ Free info block.info.trace block.info.size ∷ [])
 event-freed symbols said ptr block raw here = (
   info_number (infos said) block.info,
-  events-more symbols said (raw_free_line ptr)
+  events-push symbols said (raw_free_line ptr)
       ∙ ap (λ (l : List Event). interpreted_events symbols said ++ l)
       (free-event symbols said ptr block here (are-told symbols said raw)),
 )
@@ -70,7 +60,7 @@ event-freed symbols said ptr block raw here = (
 pub event-none : (symbols : List Symbol) (said : List Content) (c : Content) → IsEventless c
     → interpreted_events symbols (said ++ c ∷ []) ≡ interpreted_events symbols said
 event-none symbols said c none =
-    events-more symbols said c
+    events-push symbols said c
     ∙ ap (λ (l : List Event). interpreted_events symbols said ++ l)
     (quiet-events (interpreted_said symbols said) (told_after symbols said c) (quiet c none))
     ∙ append-nil (interpreted_events symbols said)

@@ -1,7 +1,7 @@
 -- No free of the interpreted lines is of an info without a live block.
 use Rattle.std.proofs.Common.{◌≡◌, ℕ, ◌+◌, ◌^◌, ◌<◌, ◌≤◌, Bool, true, false, cond, List, [], ◌∷◌, ◌++◌, map, Option}
 use Rattle.std.proofs.Common.{Some, None, refl, sym, ap, ◌∙◌, arith, append_assoc, append-nil, subst, true≢false}
-use Rattle.std.specs.Prelude.{◌==◌, nat_lt, slice_get, sum_by}
+use Rattle.std.specs.Prelude.{◌==◌, count_by, nat_lt, slice_get, sum_by}
 use Rattle.std.specs.List.{AllByRecursion, list_any}
 use Rattle.std.specs.Option.{option_to_list}
 use Rattle.std.proofs.lemmas.Bool.{eq-eqb, eqb-true, false_from_ne_true}
@@ -33,8 +33,8 @@ use Rattle.interpret.proofs.FirstLemmas.{place-within}
 use Rattle.ht_trace.proofs.Laws.{gathered-push}
 use Rattle.interpret.proofs.GrowthLemmas.{infos-push}
 use Rattle.interpret.proofs.KeepLemmas.{Holds, holds-step, none-hold}
-use Rattle.interpret.proofs.LedgerLemmas.{all-append, alloc-event, event_behind, events-append, free-event, info-at}
-use Rattle.interpret.proofs.LedgerLemmas.{infos-same, interpreted-push, node-quiet, now-held, quiet-events, stays-held}
+use Rattle.interpret.proofs.LedgerLemmas.{all-append, alloc-event, event_behind, events-push, free-event, info-at}
+use Rattle.interpret.proofs.LedgerLemmas.{infos-same, node-quiet, now-held, quiet-events, stays-held}
 use Rattle.interpret.proofs.PointerLemmas.{number-stays}
 use Rattle.interpret.proofs.RawLedgerLemmas.{frees-once, some-is}
 use Rattle.interpret.proofs.ReadAgainLemmas.{events-again, whole-stage}
@@ -102,43 +102,40 @@ frees-by info (Alloc n stack size) = 0
 frees-by info (Free n stack size) = cond (same_info (record { size = size; trace = stack }) info) 1 0
 frees-by info (Tick ms) = 0
 
-allocs-same : (all : List AllocationInfo) (info : AllocationInfo) (es : List Event)
-    → list_any (same_info info) all ≡ true → AllByRecursion (IsNumbered all) es
-    → allocs_of (info_number all info) es ≡ sum_by (allocs-by info) es
-unfolding IsNumbered allocs-by
-allocs-same all info [] held each = refl
-allocs-same all info (e ∷ es) held each =
-    sum_by-cons (λ event. cond {A = ℕ} (is_alloc_of (info_number all info) event) 1 0) e es
-    ∙ (by e each.0 (allocs-same all info es held each.1) ∙ sym (sum_by-cons (allocs-by info) e es))
-  where
-    by : (e : Event) → IsNumbered all e → allocs_of (info_number all info) es ≡ sum_by (allocs-by info) es
-        → cond {A = ℕ} (is_alloc_of (info_number all info) e) 1 0 + allocs_of (info_number all info) es
-        ≡ allocs-by info e + sum_by (allocs-by info) es
-    by (Alloc n stack size) has rest =
-        ap (λ (b : Bool). cond {A = ℕ} b 1 0 + allocs_of (info_number all info) es)
-        (same-number all info n stack size held has)
-        ∙ ap (λ (k : ℕ). cond {A = ℕ} (same_info (record { size = size; trace = stack }) info) 1 0 + k) rest
-    by (Free n stack size) has rest = ap (λ (k : ℕ). 0 + k) rest
-    by (Tick ms) has rest = ap (λ (k : ℕ). 0 + k) rest
+-- counts by the number of an info are those by its stack and size
+counts-same :
+    (is_of : ℕ → Event → Bool) (by : Event → ℕ) (all : List AllocationInfo) (number : ℕ) (es : List Event)
+    → ((e : Event) → IsNumbered all e → cond {A = ℕ} (is_of number e) 1 0 ≡ by e)
+    → AllByRecursion (IsNumbered all) es
+    → count_by (is_of number) es ≡ sum_by by es
+counts-same is_of by all number [] one each = refl
+counts-same is_of by all number (e ∷ es) one each =
+    sum_by-cons (λ event. cond {A = ℕ} (is_of number event) 1 0) e es
+    ∙ (ap (λ (k : ℕ). k + count_by (is_of number) es) (one e each.0)
+    ∙ ap (λ (k : ℕ). by e + k) (counts-same is_of by all number es one each.1) ∙ sym (sum_by-cons by e es))
 
-frees-same : (all : List AllocationInfo) (info : AllocationInfo) (es : List Event)
+counted-same : (all : List AllocationInfo) (info : AllocationInfo) (es : List Event)
     → list_any (same_info info) all ≡ true → AllByRecursion (IsNumbered all) es
-    → frees_of (info_number all info) es ≡ sum_by (frees-by info) es
-unfolding IsNumbered frees-by
-frees-same all info [] held each = refl
-frees-same all info (e ∷ es) held each =
-    sum_by-cons (λ event. cond {A = ℕ} (is_free_of (info_number all info) event) 1 0) e es
-    ∙ (by e each.0 (frees-same all info es held each.1) ∙ sym (sum_by-cons (frees-by info) e es))
+    → (allocs_of (info_number all info) es ≡ sum_by (allocs-by info) es)
+    × (frees_of (info_number all info) es ≡ sum_by (frees-by info) es)
+unfolding IsNumbered allocs-by frees-by
+counted-same all info es held each = (
+  counts-same is_alloc_of (allocs-by info) all (info_number all info) es alloc each,
+  counts-same is_free_of (frees-by info) all (info_number all info) es free each,
+)
   where
-    by : (e : Event) → IsNumbered all e → frees_of (info_number all info) es ≡ sum_by (frees-by info) es
-        → cond {A = ℕ} (is_free_of (info_number all info) e) 1 0 + frees_of (info_number all info) es
-        ≡ frees-by info e + sum_by (frees-by info) es
-    by (Alloc n stack size) has rest = ap (λ (k : ℕ). 0 + k) rest
-    by (Free n stack size) has rest =
-        ap (λ (b : Bool). cond {A = ℕ} b 1 0 + frees_of (info_number all info) es)
-        (same-number all info n stack size held has)
-        ∙ ap (λ (k : ℕ). cond {A = ℕ} (same_info (record { size = size; trace = stack }) info) 1 0 + k) rest
-    by (Tick ms) has rest = ap (λ (k : ℕ). 0 + k) rest
+    alloc : (e : Event) → IsNumbered all e
+        → cond {A = ℕ} (is_alloc_of (info_number all info) e) 1 0 ≡ allocs-by info e
+    alloc (Alloc n stack size) has =
+        ap (λ (b : Bool). cond {A = ℕ} b 1 0) (same-number all info n stack size held has)
+    alloc (Free n stack size) has = refl
+    alloc (Tick ms) has = refl
+
+    free : (e : Event) → IsNumbered all e → cond {A = ℕ} (is_free_of (info_number all info) e) 1 0 ≡ frees-by info e
+    free (Alloc n stack size) has = refl
+    free (Free n stack size) has =
+        ap (λ (b : Bool). cond {A = ℕ} b 1 0) (same-number all info n stack size held has)
+    free (Tick ms) has = refl
 
 -- a held block's info has more allocations than frees
 more-allocs : (symbols : List Symbol) (said : List Content) (ptr : ℕ) (block : RawBlock) → held said ptr ≡ Some block
@@ -150,12 +147,13 @@ more-allocs symbols said ptr block here kept each =
     let info = block.info in
     let w = λ (b : RawBlock). cond {A = ℕ} (same_info b.info block.info) 1 0 in
     let there = kept.are_told.block_infos ptr block here in
+    let counts = counted-same (infos said) info (interpreted_events symbols said) there each in
     let a =
-    allocs-same (infos said) info (interpreted_events symbols said) there each
+    counts.0
     ∙ kept.are_told.allocs (allocs-by info) w
     (record { alloc = λ n b. refl; free = λ n stack size. refl; tick = λ ms. refl }) in
     let b =
-    frees-same (infos said) info (interpreted_events symbols said) there each
+    counts.1
     ∙ kept.are_told.frees (frees-by info) w
     (record { alloc = λ n stack size. refl; free = λ n b. refl; tick = λ ms. refl }) in
     let balance = kept.are_held.balance w in
@@ -170,22 +168,13 @@ record AreFine (symbols : List Symbol) (said : List Content) : Type 0 where
   each : AllByRecursion (IsNumbered (infos said)) (interpreted_events symbols said)
   no_fault : gathered free_fault [] (interpreted_events symbols said) ≡ []
 
-events-after : (symbols : List Symbol) (said : List Content) (c : Content)
-    → interpreted_events symbols (said ++ c ∷ [])
-    ≡ interpreted_events symbols said
-    ++ gathered event_behind (interpreted_said symbols said) (told_after symbols said c)
-unfolding interpreted_events
-events-after symbols said c =
-    ap events_said (interpreted-push symbols said c)
-    ∙ events-append (interpreted_said symbols said) (told_after symbols said c)
-
 -- no event more
 fine-same : (symbols : List Symbol) (said : List Content) (c : Content)
     → gathered event_behind (interpreted_said symbols said) (told_after symbols said c) ≡ []
     → infos (said ++ c ∷ []) ≡ infos said → AreFine symbols said → AreFine symbols (said ++ c ∷ [])
 fine-same symbols said c none same fine =
     let now : interpreted_events symbols (said ++ c ∷ []) ≡ interpreted_events symbols said =
-    events-after symbols said c
+    events-push symbols said c
     ∙ (ap (λ (l : List Event). interpreted_events symbols said ++ l) none
     ∙ append-nil (interpreted_events symbols said)) in
     record {
@@ -204,7 +193,7 @@ fine-one : (symbols : List Symbol) (said : List Content) (c : Content) (event : 
     → AreFine symbols said → AreFine symbols (said ++ c ∷ [])
 fine-one symbols said c event one old here good fine =
     let now : interpreted_events symbols (said ++ c ∷ []) ≡ interpreted_events symbols said ++ event ∷ [] =
-    events-after symbols said c ∙ ap (λ (l : List Event). interpreted_events symbols said ++ l) one in
+    events-push symbols said c ∙ ap (λ (l : List Event). interpreted_events symbols said ++ l) one in
     record {
       each =
           subst (λ (l : List Event). AllByRecursion (IsNumbered (infos (said ++ c ∷ []))) l) (sym now)

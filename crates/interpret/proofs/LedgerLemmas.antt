@@ -430,13 +430,34 @@ blocks-held said c old ptr block is =
     ap (λ (l : List AllocationInfo). list_any (same_info block.info) l) (infos-same said c refl)
     ∙ old ptr block (sym (held-push said c ptr) ∙ is)
 
+-- the events with those of one more line
+pub events-push : (symbols : List Symbol) (said : List Content) (c : Content)
+    → interpreted_events symbols (said ++ c ∷ [])
+    ≡ interpreted_events symbols said
+    ++ gathered event_behind (interpreted_said symbols said) (told_after symbols said c)
+unfolding interpreted_events
+events-push symbols said c =
+    ap events_said (interpreted-push symbols said c)
+    ∙ events-append (interpreted_said symbols said) (told_after symbols said c)
+
+-- a sum over blocks with that of one more line
+sum-picked : (pick : List Content → Content → Option RawBlock) (w : RawBlock → ℕ) (said : List Content) (c : Content)
+    → sum_by w (gathered pick [] (said ++ c ∷ []))
+    ≡ sum_by w (gathered pick [] said) + sum_by w (option_to_list (pick said c))
+sum-picked pick w said c =
+    ap (λ (l : List RawBlock). sum_by w l) (gathered-push pick [] said c)
+    ∙ sum_by-append w (gathered pick [] said) (option_to_list (pick said c))
+
 pub told-step : (symbols : List Symbol) (said : List Content) (c : Content) → IsRaw c → AreTold symbols said
     → AreTold symbols (said ++ c ∷ [])
 unfolding interpreted_events blocks freed
 told-step symbols said c raw are =
     let more = adds symbols said c raw are in
     let push = interpreted-push symbols said c in
-    let events = ap events_said push ∙ events-append (interpreted_said symbols said) (told_after symbols said c) in
+    let summed = λ (f : Event → ℕ).
+    ap (λ (l : List Event). sum_by f l) (events-push symbols said c)
+    ∙ sum_by-append f (interpreted_events symbols said)
+    (gathered event_behind (interpreted_said symbols said) (told_after symbols said c)) in
     record {
       infos_are =
           ap (λ (l : List Content). lists.infos l) push
@@ -447,23 +468,9 @@ told-step symbols said c raw are =
           ∙ ap (λ (l : List AllocationInfo). map held_of l) (grows symbols said c);
       block_infos = blocks-held said c are.block_infos;
       allocs = λ f w counts.
-          let a =
-          ap (λ (l : List Event). sum_by f l) events
-          ∙ sum_by-append f (events_said (interpreted_said symbols said))
-          (gathered event_behind (interpreted_said symbols said) (told_after symbols said c)) in
-          let b =
-          ap (λ (l : List RawBlock). sum_by w l) (gathered-push block_in [] said c)
-          ∙ sum_by-append w (blocks said) (option_to_list (block_in said c)) in
-          omega (arith, a, b, are.allocs f w counts, more.allocs f w counts);
+          omega (arith, summed f, sum-picked block_in w said c, are.allocs f w counts, more.allocs f w counts);
       frees = λ f w counts.
-          let a =
-          ap (λ (l : List Event). sum_by f l) events
-          ∙ sum_by-append f (events_said (interpreted_said symbols said))
-          (gathered event_behind (interpreted_said symbols said) (told_after symbols said c)) in
-          let b =
-          ap (λ (l : List RawBlock). sum_by w l) (gathered-push freed_by [] said c)
-          ∙ sum_by-append w (freed said) (option_to_list (freed_by said c)) in
-          omega (arith, a, b, are.frees f w counts, more.frees f w counts);
+          omega (arith, summed f, sum-picked freed_by w said c, are.frees f w counts, more.frees f w counts);
     }
   where
     grows : (symbols : List Symbol) (said : List Content) (c : Content)

@@ -46,6 +46,15 @@ use Rattle.interpret.proofs.WritableLemmas.{allocation-writable, free-writable, 
 use Rattle.interpret.proofs.GoodLemmas.{AreGood, allocation-good, free-good, node-good, patterns-append, patterns-told}
 use Rattle.interpret.proofs.GoodLemmas.{said_tables, suppression-good}
 
+-- tables stay small with a line that has no fault
+few-with : (symbols : List Symbol) (version : Option ℕ) (said : List Content) (c : Content)
+    → AreFew (tables_of symbols said)
+    → raw_fault_of.content_fault symbols version (tables_of symbols said) c ≡ None
+    → AreFew (tables_of symbols (said ++ c ∷ []))
+few-with symbols version said c few good =
+    subst (λ (t : RawTables). AreFew t) (sym (tables-push symbols said c))
+    (few-after symbols version (tables_of symbols said) c few good)
+
 first-version : (symbols : List Symbol) (version : Option ℕ) (tables : RawTables) (heaptrack file : ℕ)
     → raw_fault_of.content_fault symbols version tables (version_line heaptrack file) ≡ None → version ≡ None
 unfolding raw_fault_of.content_fault
@@ -171,9 +180,7 @@ module _ (back : (n : ℕ) → n < 2 ^ 64 → parsed_hex (hexadecimal n) ≡ Som
       let c = node_line ip parent in
       let said = contents lines in
       let v = has-version 116 (version_of lines) line reads.0 refl may in
-      let after =
-      subst (λ (t : RawTables). AreFew t) (sym (tables-push symbols said c))
-      (few-after symbols (version_of lines) (tables_of symbols said) c stage.few good) in
+      let after = few-with symbols (version_of lines) said c stage.few good in
       written-good symbols lines out v.0 (told_after symbols said c) stage v.1
       (node-writable v.0 symbols (tables_of symbols said) (names symbols (said ++ c ∷ []))
       (known symbols (said ++ c ∷ [])) ip parent texts stage.modules_short (names-push symbols said c) after.names_few
@@ -185,9 +192,7 @@ module _ (back : (n : ℕ) → n < 2 ^ 64 → parsed_hex (hexadecimal n) ≡ Som
       let c = raw_allocation_line size trace ptr in
       let said = contents lines in
       let v = has-version 43 (version_of lines) line reads.0 refl may in
-      let after =
-      subst (λ (t : RawTables). AreFew t) (sym (tables-push symbols said c))
-      (few-after symbols (version_of lines) (tables_of symbols said) c stage.few good) in
+      let after = few-with symbols (version_of lines) said c stage.few good in
       written-good symbols lines out v.0 (told_after symbols said c) stage v.1
       (allocation-writable v.0 (infos said) (infos (said ++ c ∷ [])) size trace (infos-push said c) after.infos_few
       writable.0.0 writable.0.1.0)
