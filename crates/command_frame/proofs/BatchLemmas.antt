@@ -5,6 +5,7 @@ use Rattle.std.proofs.Common.{length-append, length-take, arith}
 use Rattle.std.proofs.lemmas.Bool.{le-leb, ne_eqb}
 use Rattle.std.proofs.lemmas.List.{take-append-drop}
 use Rattle.std.proofs.lemmas.List.Elements.{All-head, All-nil, All-tail}
+use Rattle.std.specs.Prelude.{Vec}
 use Rattle.std.specs.Io.KnownBytes.{prepend_known}
 use Rattle.hp_outside.specs.LineReaderState.{LineReaderState}
 use Rattle.hp_outside.specs.Lines.{after_line, first_line, lines_of}
@@ -13,6 +14,8 @@ use Rattle.command_frame.specs.Batch.{AreGood, HasGivenFront, HasTakenKept, IsSh
 use Rattle.command_frame.specs.FirstFault.{Bounds, bytes_of_lines}
 use Rattle.command_frame.specs.LinesRun.{Gained}
 use Rattle.command_frame.specs.Report.{Report, gains_from, written}
+use Rattle.command_frame.specs.TakenReady.{HasTakenReady}
+use Rattle.command_frame.specs.declared.taker.LineTaker as taker
 use Rattle.command_frame.proofs.FrontLemmas.{gains_append}
 use Rattle.command_frame.proofs.LineLemmas.{after_before, first_before, lines_of_first}
 use Rattle.command_frame.proofs.LinesLoop.{Reading, ToldReading, left_behind, told_more}
@@ -45,6 +48,23 @@ nothing_kept report has reader within = record {
   passed = omega arith;
   number = omega arith;
   line_ended = refl;
+}
+
+-- and the reader and the taker stay as they are
+pub nothing_ready : {T F Z : Type 0} (g : taker.Ghosts T F) (reader : LineReaderState) (old : T) (buffer : Vec ℕ Z)
+    → reader.passed ≤ reader.input → g.is_sound old → g.measure old ≤ reader.given → reader.given ≤ reader.input + 1
+    → HasTakenReady g reader reader old old buffer buffer
+nothing_ready g reader old buffer within sound measure bounded = record {
+  taken = nothing_kept (g.report old) (g.has_taken old) reader within;
+  sound = sound;
+  measure = measure;
+  report = refl;
+  given = omega arith;
+  bounded = bounded;
+  input = refl;
+  limit = refl;
+  ended = refl;
+  fault = refl;
 }
 
 -- the first line, and what stands behind it

@@ -1,5 +1,5 @@
 -- The ends of reading a document, and what follows for a run.
-use Rattle.std.proofs.Common.{◌≡◌, ◌≢◌, ◌↔◌, ◌<◌, ◌≤◌, ℕ, nat_lt, List, [], ◌∷◌, length, true, false, Option, Some}
+use Rattle.std.proofs.Common.{◌≡◌, ◌≢◌, ◌↔◌, ◌+◌, ◌<◌, ◌≤◌, ℕ, nat_lt, List, [], ◌∷◌, length, true, false, Option, Some}
 use Rattle.std.proofs.Common.{None, Result, Ok, Err, IsSome, refl, sym, subst, inl, inr, arith}
 use Rattle.std.proofs.lemmas.Bool.{false_from_ne_true, lt-ltb, ltb-true}
 use Rattle.std.proofs.lemmas.Bool.Decides.{eqb_tells}
@@ -69,6 +69,25 @@ open_unread : (texts : Texts) (name : List ℕ) (fault : OpenFault) (answer : An
 open_unread texts name opening.Absent answer is = (tt, is)
 open_unread texts name opening.Failed answer is = (tt, is)
 
+-- memory was wanting, or the bytes weren't given for another reason
+document_ended : (texts : Texts) (bounds : Bounds) (files : Option Folder) (name : List ℕ) (before now : Moment)
+    (halt : Halt)
+    → now.opens ≡ before.opens + 1 → (status_code halt.status ≡ 5 → halt_answer texts halt ≡ memory_answer texts)
+    → (status_code halt.status ≢ 5
+    → (end : DocumentEnd) × (DocumentRead bounds files name before now end × GivesWhole texts name end (Err halt)))
+    → (end : DocumentEnd) × (DocumentRead bounds files name before now end × GivesWhole texts name end (Err halt))
+document_ended texts bounds files name before now halt opens memory unread =
+    elim (eqb_tells (status_code halt.status) 5) [
+      | inl five ↦ (
+        Wanting,
+        (
+          record { told = λ folder known. wanting_where bounds (file_of folder name); calls = opens },
+          (tt, memory five.1),
+        ),
+      )
+      | inr other ↦ unread other.1
+    ]
+
 pub document_unopened : (texts : Texts) (bounds : Bounds) (files : Option Folder) (name : List ℕ) (before now : Moment)
     (fault : OpenFault) (result : Result (Unit {0}) OpenFault) (halt : Halt)
     → result ≡ Err fault
@@ -79,26 +98,17 @@ pub document_unopened : (texts : Texts) (bounds : Bounds) (files : Option Folder
     → (status_code halt.status ≡ 5 → halt_answer texts halt ≡ memory_answer texts)
     → (end : DocumentEnd) × (DocumentRead bounds files name before now end × GivesWhole texts name end (Err halt))
 document_unopened texts bounds files name before now fault result halt is tells opened absent failed answer memory =
-    elim (eqb_tells (status_code halt.status) 5) [
-      | inl five ↦ (
-        Wanting,
-        (
-          record { told = λ folder known. wanting_where bounds (file_of folder name); calls = opened.opens },
-          (tt, memory five.1),
-        ),
-      )
-      | inr other ↦ (
-        end_of_document fault,
-        (
-          record {
-            told =
-                λ folder known. open_where bounds (file_of folder name) fault result is (tells folder known);
-            calls = open_calls files before now fault opened absent failed;
-          },
-          open_unread texts name fault (halt_answer texts halt) (answer other.1),
-        ),
-      )
-    ]
+    document_ended texts bounds files name before now halt opened.opens memory (λ other. (
+      end_of_document fault,
+      (
+        record {
+          told =
+              λ folder known. open_where bounds (file_of folder name) fault result is (tells folder known);
+          calls = open_calls files before now fault opened absent failed;
+        },
+        open_unread texts name fault (halt_answer texts halt) (answer other),
+      ),
+    ))
 
 -- the bytes of an open document weren't given
 fault_where : (bounds : Bounds) (file start : Option (List ℕ)) (fault : WholeFault) → start ≡ file → IsSome file
@@ -132,27 +142,18 @@ pub document_stopped : (texts : Texts) (bounds : Bounds) (files : Option Folder)
     → (end : DocumentEnd) × (DocumentRead bounds files name before now end × GivesWhole texts name end (Err halt))
 document_stopped texts bounds files name before now start fault halt start_is found told opened failed sound answer
     memory =
-    elim (eqb_tells (status_code halt.status) 5) [
-      | inl five ↦ (
-        Wanting,
-        (
-          record { told = λ folder known. wanting_where bounds (file_of folder name); calls = opened.opens },
-          (tt, memory five.1),
-        ),
-      )
-      | inr other ↦ (
-        end_of_whole fault,
-        (
-          record {
-            told =
-                λ folder known. fault_where bounds (file_of folder name) start fault (start_is folder known)
-                (found folder known) told;
-            calls = fault_calls files before now fault opened failed sound;
-          },
-          (fault_unread fault, answer other.1),
-        ),
-      )
-    ]
+    document_ended texts bounds files name before now halt opened.opens memory (λ other. (
+      end_of_whole fault,
+      (
+        record {
+          told =
+              λ folder known. fault_where bounds (file_of folder name) start fault (start_is folder known)
+              (found folder known) told;
+          calls = fault_calls files before now fault opened failed sound;
+        },
+        (fault_unread fault, answer other),
+      ),
+    ))
 
 -- all bytes of a document were given
 whole_where : (bounds : Bounds) (file start : Option (List ℕ)) (whole : List ℕ) → start ≡ file → IsSome file

@@ -7,6 +7,7 @@ use Rattle.std.proofs.Math.Seq.{take-add, take-append-add}
 use Rattle.hp_outside.specs.WholeLines.{IsLineText, text_of_lines}
 use Rattle.command_frame.specs.Batch.{AreGood, HasGivenFront, HasGivenLine, HasGivenNone, IsShortLine}
 use Rattle.command_frame.specs.Report.{Report, gains_from}
+use Rattle.command_frame.proofs.OutputLemmas.{gains_push}
 
 -- the rest is what is left of the bytes
 pub record IsLeft (ready rest : List ℕ) : Type 0 where
@@ -63,21 +64,6 @@ good_append report earlier (first ∷ lines) more good behind = (
       (subst (λ before. AreGood report before more) (sym (append_assoc earlier (first ∷ []) lines)) behind),
 )
 
--- what one line more gives
-gains_more : (report : Report) (earlier lines : List (List ℕ)) (line : List ℕ)
-    → gains_from report earlier (lines ++ line ∷ [])
-    ≡ gains_from report earlier lines ++ report.gains (earlier ++ lines) line
-gains_more report earlier [] line =
-    append-nil (report.gains earlier line) ∙ ap (λ before. report.gains before line) (sym (append-nil earlier))
-gains_more report earlier (first ∷ lines) line =
-    ap (λ rest. report.gains earlier first ++ rest) (gains_more report (earlier ++ first ∷ []) lines line)
-    ∙ (sym
-    (append_assoc (report.gains earlier first) (gains_from report (earlier ++ first ∷ []) lines)
-    (report.gains ((earlier ++ first ∷ []) ++ lines) line))
-    ∙ ap (λ before. (report.gains earlier first ++ gains_from report (earlier ++ first ∷ []) lines)
-    ++ report.gains before line) (append_assoc
-    earlier (first ∷ []) lines))
-
 -- one line more was taken
 pub line_more : {before mid after : List ℕ} (report : Report) (initial old new : List (List ℕ) → Type 0)
     (ready : List ℕ) (bytes number more : ℕ)
@@ -107,7 +93,7 @@ line_more {before} report initial old new ready bytes number more front one =
           ∙ (ap (λ l. l ++ report.gains (earlier ++ front.lines) one.line) (front.gained earlier has)
           ∙ (append_assoc before (gains_from report earlier front.lines)
           (report.gains (earlier ++ front.lines) one.line)
-          ∙ ap (λ l. before ++ l) (sym (gains_more report earlier front.lines one.line))));
+          ∙ ap (λ l. before ++ l) (sym (gains_push report earlier front.lines one.line))));
       taken =
           λ earlier has. subst new (append_assoc earlier front.lines (one.line ∷ []))
           (one.taken (earlier ++ front.lines) (front.taken earlier has));

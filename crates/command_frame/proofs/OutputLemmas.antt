@@ -19,7 +19,7 @@ append_further None first second = refl
 append_further (Some bytes) first second = ap Some (append_assoc bytes first second)
 
 -- what lines give, and one line after them
-gains_push : (report : Report) (earlier lines : List (List ℕ)) (line : List ℕ)
+pub gains_push : (report : Report) (earlier lines : List (List ℕ)) (line : List ℕ)
     → gains_from report earlier (lines ++ line ∷ [])
     ≡ gains_from report earlier lines ++ report.gains (earlier ++ lines) line
 gains_push report earlier [] line =
