@@ -7,8 +7,7 @@ use Rattle.stack_table.proofs.nodes.stack_len.Goals as goal
 
 pub outwards-smaller : goal.outwards-smaller
 outwards-smaller c =
-    let reads = read_slice c.args.entries.now c.outwards.at c.requires.table (omega arith) (omega arith) in
-    reads.lower_parent
+    (read_slice c.args.entries.now c.outwards.at c.requires.table (omega arith) (omega arith)).lower_parent
 
 pub outwards-preserved : goal.outwards-preserved
 outwards-preserved c =

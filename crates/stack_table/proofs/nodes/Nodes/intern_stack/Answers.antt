@@ -37,14 +37,19 @@ loop-ip-preserved c =
       before.3,
     )
 
+-- the stack whose next node is refused
+whole : (c : goal.After-cut)
+    → c.args.ips.now ≡ c.next.new.self.iter.rest.now ++ c.in-Some.ip.now ∷ c.loop-ip.invariant.0
+whole c =
+    let before = c.loop-ip.invariant in
+    parted c.args.ips.now c.next.new.self.iter.rest.now c.loop-ip.ip-iterator.iter.rest.now before.0 c.in-Some.ip.now
+    before.1 c.in-Some.ensures.steps
+
 pub returns-in-Err-clause-fault : goal.returns-in-Err-clause-fault
 returns-in-Err-clause-fault c = λ other.
     let before = c.loop-ip.invariant in
     let ip = c.in-Some.ip.now in
-    let whole =
-    parted c.args.ips.now c.next.new.self.iter.rest.now c.loop-ip.ip-iterator.iter.rest.now before.0 ip before.1
-    c.in-Some.ensures.steps in
-    ap (λ (ips : List ℕ). stack_fault c.args.self.now ips) whole
+    ap (λ (ips : List ℕ). stack_fault c.args.self.now ips) (whole c)
     ∙ fault-more c.args.self.now c.next.new.self.iter.rest.now before.0 c.loop-ip.self ip c.loop-ip.number
     c.in-Err.fault before.2
     (subst (λ (parent : ℕ). node_interned_fault c.loop-ip.self (called ip parent) ≡ Some c.in-Err.fault) c.from.ensures
@@ -60,16 +65,13 @@ pub returns-in-Err-clause-held : goal.returns-in-Err-clause-held
 returns-in-Err-clause-held c = λ same.
     let before = c.loop-ip.invariant in
     let ip = c.in-Some.ip.now in
-    let whole =
-    parted c.args.ips.now c.next.new.self.iter.rest.now c.loop-ip.ip-iterator.iter.rest.now before.0 ip before.1
-    c.in-Some.ensures.steps in
     let none =
     refused (node_number c.loop-ip.self ip c.from.result) _ (λ number said. let err = said.0 in grind (arith, err))
     c.in-Err.ensures.held in
     absurd (
     not_held c.args.self.now c.next.new.self.iter.rest.now before.0 c.loop-ip.self ip c.loop-ip.number before.2
     (subst (λ (parent : ℕ). node_number c.loop-ip.self ip parent ≡ None) c.from.ensures none)
-    (subst (λ (ips : List ℕ). (stack_interned c.args.self.now ips).nodes ≡ c.args.self.now) whole same)
+    (subst (λ (ips : List ℕ). (stack_interned c.args.self.now ips).nodes ≡ c.args.self.now) (whole c) same)
     )
 
 -- what the nodes were is left where one can't be had

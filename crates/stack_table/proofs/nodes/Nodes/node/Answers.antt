@@ -4,14 +4,10 @@ use Rattle.stack_table.proofs.nodes.Nodes.node.Goals as goal
 
 pub returns-clause-lower_parent : goal.returns-clause-lower_parent
 returns-clause-lower_parent c =
-    let reads =
-    read c.self.inside.entries.items c.args.self.now c.args.n c.index-entry.result.now c.self.invariant.0
-    c.self.view_is (omega arith) (omega arith) c.index-entry.ensures in
-    reads.lower_parent
+    (read c.self.inside.entries.items c.args.self.now c.args.n c.index-entry.result.now c.self.invariant.0
+    c.self.view_is (omega arith) (omega arith) c.index-entry.ensures).lower_parent
 
 pub returns-clause-stack : goal.returns-clause-stack
 returns-clause-stack c =
-    let reads =
-    read c.self.inside.entries.items c.args.self.now c.args.n c.index-entry.result.now c.self.invariant.0
-    c.self.view_is (omega arith) (omega arith) c.index-entry.ensures in
-    reads.unfolds
+    (read c.self.inside.entries.items c.args.self.now c.args.n c.index-entry.result.now c.self.invariant.0
+    c.self.view_is (omega arith) (omega arith) c.index-entry.ensures).unfolds
