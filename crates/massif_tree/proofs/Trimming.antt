@@ -5,7 +5,7 @@ use Rattle.std.proofs.Common.{None, Some, refl, sym, ap, subst, ◌∙◌, appen
 use Rattle.std.specs.Prelude.{slice_get}
 use Rattle.std.specs.List.{prefix_len, range_with_len}
 use Rattle.std.proofs.Math.Seq.{drop-append-add}
-use Rattle.std.proofs.lemmas.Bool.{cases_lt, cond-false, cond-true}
+use Rattle.std.proofs.lemmas.Bool.{cases_lt, cond-false}
 use Rattle.std.proofs.lemmas.Bool.Decides.{nat_tests}
 use Rattle.std.proofs.lemmas.List.{drop-append-le, length_push, map-append, take-take, take_all}
 use Rattle.std.proofs.lemmas.List.Folds.{prefix_len-append}
@@ -27,26 +27,27 @@ use Rattle.massif_tree.specs.FunctionLists.{is_listed, trimmed, trimmed_before, 
 use Rattle.massif_tree.specs.MassifTree.{massif_line, massif_tree, scale_of}
 use Rattle.massif_tree.specs.Whole.{AreWhole, IsWhole}
 
--- where all frames in front are listed, those that are left are those that are left of the others
+-- how many listed ones come first of the frames in front and the others, by whether all in front are listed
+listed-first : (listed : FrameAt → Bool) (own outer : List FrameAt) (all : Bool)
+    → eqb (prefix_len listed own) (length own) ≡ all
+    → prefix_len listed (own ++ outer)
+    ≡ (if all then length own + prefix_len listed outer else prefix_len listed own)
+listed-first listed own outer all is =
+    prefix_len-append listed own outer
+    ∙ ap (λ (b : Bool). if b then length own + prefix_len listed outer else prefix_len listed own) is
+
+-- where all are, those that are left are those that are left of the others
 without-all : (listed : FrameAt → Bool) (own outer : List FrameAt) → prefix_len listed own ≡ length own
     → drop (prefix_len listed (own ++ outer)) (own ++ outer) ≡ drop (prefix_len listed outer) outer
 without-all listed own outer all =
-    let whole : eqb (prefix_len listed own) (length own) ≡ true = grind (arith, nat_tests) in
-    ap (λ (k : ℕ). drop k (own ++ outer))
-    (prefix_len-append listed own outer
-    ∙ cond-true (eqb (prefix_len listed own) (length own)) (length own + prefix_len listed outer)
-    (prefix_len listed own) whole)
+    ap (λ (k : ℕ). drop k (own ++ outer)) (listed-first listed own outer true (grind (arith, nat_tests)))
     ∙ drop-append-add own outer (prefix_len listed outer)
 
 -- and else they are those that are left of the ones in front, and all others
 without-some : (listed : FrameAt → Bool) (own outer : List FrameAt) → prefix_len listed own < length own
     → drop (prefix_len listed (own ++ outer)) (own ++ outer) ≡ drop (prefix_len listed own) own ++ outer
 without-some listed own outer some =
-    let part : eqb (prefix_len listed own) (length own) ≡ false = grind (arith, nat_tests) in
-    ap (λ (k : ℕ). drop k (own ++ outer))
-    (prefix_len-append listed own outer
-    ∙ cond-false (eqb (prefix_len listed own) (length own)) (length own + prefix_len listed outer)
-    (prefix_len listed own) part)
+    ap (λ (k : ℕ). drop k (own ++ outer)) (listed-first listed own outer false (grind (arith, nat_tests)))
     ∙ drop-append-le (prefix_len listed own) own outer (omega arith)
 
 -- the frames of a stack that another is called from

@@ -1,14 +1,18 @@
-use Rattle.std.proofs.Common.{◌≡◌, ℕ, List, [], ◌++◌, None, length, drop, sym, ap, ◌∙◌, arith}
+use Rattle.std.proofs.Common.{◌≡◌, ℕ, true, List, [], ◌++◌, None, length, drop, sym, ap, ◌∙◌, arith}
 use Rattle.std.specs.List.{prefix_len}
+use Rattle.std.specs.Prelude.{◌==◌}
 use Rattle.std.proofs.lemmas.Bool.Decides.{nat_tests}
 use Rattle.std.proofs.lemmas.List.{take_all}
 use Rattle.cost_tree.specs.Following.{following}
 use Rattle.ht_trace.specs.declared.frame.FrameAt.{FrameAt}
 use Rattle.ht_trace.specs.StackFrames.{outer_frames}
 use Rattle.massif_tree.specs.FunctionLists.{is_listed, without_listed}
+use Rattle.massif_tree.specs.Whole.{IsWhole}
 use Rattle.massif_tree.proofs.Trimming.{followed, listed-on, outer-is, outer-none, trimmed-all, trimmed-not}
 use Rattle.massif_tree.proofs.Trimming.{trimmed-nothing, trimmed-some, trimmed-whole}
+use Rattle.massif_tree.proofs.trimmed_fronts.add_stack.Given.{Over}
 use Rattle.massif_tree.proofs.trimmed_fronts.add_stack.Goals as goal
+use Rattle.massif_tree.proofs.trimmed_fronts.add_stack.Goals.{After-lacks_frames}
 
 pub returns-then-front-len-clause-added : goal.returns-then-front-len-clause-added
 returns-then-front-len-clause-added g c =
@@ -104,28 +108,25 @@ returns-clause-added g c =
       count = c.in_ok-push_list-3.ensures.count;
     }
 
-pub returns-then-lacks_frames-clause-whole : goal.returns-then-lacks_frames-clause-whole
-returns-then-lacks_frames-clause-whole g c = λ first names are.
-    let own : List FrameAt = c.deref.result.now in
+-- where no frame of its own is listed, the stack is whole
+whole : (g : Over) (c : After-lacks_frames g) (names : List (List ℕ))
+    → c.listed_front-front.result ≡ prefix_len (is_listed c.args.tables.now names) c.deref.result.now
+    → (c.listed_front-front.result == 0) ≡ true → IsWhole c.args.tables.now names c.args.stack
+whole g c names listed first =
     let outer : List FrameAt =
     outer_frames c.args.tables.now.instructions c.args.tables.now.nodes c.in_ok-caller.caller in
-    let front : ℕ = c.listed_front-front.result in
-    let none : front ≡ 0 = grind (arith, nat_tests) in
-    trimmed-not c.args.tables.now names c.args.stack front own outer
-    (c.in_ok-caller.ensures.frames ∙ ap (λ (fs : List FrameAt). fs ++ outer) (sym c.deref.ensures.value))
-    (c.listed_front-front.ensures.front names are)
+    let none : c.listed_front-front.result ≡ 0 = grind (arith, nat_tests) in
+    trimmed-not c.args.tables.now names c.args.stack c.listed_front-front.result c.deref.result.now outer
+    (c.in_ok-caller.ensures.frames ∙ ap (λ (fs : List FrameAt). fs ++ outer) (sym c.deref.ensures.value)) listed
     (omega (arith, c.if-front-len.false, c.len.ensures, c.deref.ensures.len, c.listed_front-front.ensures.within))
     none
 
+pub returns-then-lacks_frames-clause-whole : goal.returns-then-lacks_frames-clause-whole
+returns-then-lacks_frames-clause-whole g c = λ first names are.
+    whole g (goal.at.returns-then-lacks_frames-clause-whole g c).After-lacks_frames names
+    (c.listed_front-front.ensures.front names are) first
+
 pub returns-clause-whole : goal.returns-clause-whole
 returns-clause-whole g c = λ first names are.
-    let own : List FrameAt = c.deref.result.now in
-    let outer : List FrameAt =
-    outer_frames c.args.tables.now.instructions c.args.tables.now.nodes c.in_ok-caller.caller in
-    let front : ℕ = c.listed_front-front.result in
-    let none : front ≡ 0 = grind (arith, nat_tests) in
-    trimmed-not c.args.tables.now names c.args.stack front own outer
-    (c.in_ok-caller.ensures.frames ∙ ap (λ (fs : List FrameAt). fs ++ outer) (sym c.deref.ensures.value))
-    (c.listed_front-front.ensures.front names are)
-    (omega (arith, c.if-front-len.false, c.len.ensures, c.deref.ensures.len, c.listed_front-front.ensures.within))
-    none
+    whole g (goal.at.returns-clause-whole g c).After-lacks_frames names (c.listed_front-front.ensures.front names are)
+    first
