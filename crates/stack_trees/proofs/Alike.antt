@@ -41,22 +41,24 @@ own-cons : (front : List (List ℕ)) (stack : Costed) (stacks : List Costed)
 unfolding own
 own-cons front stack stacks = sum_by-cons (λ (s : Costed). cond (is_front front s.texts) s.cost 0) stack stacks
 
+-- so sums stay the same where it is added to them
+added-same : (cost : ℕ) (passes passes' : Bool) (sum sum' whole whole' : ℕ) → (0 < cost → passes ≡ passes')
+    → whole ≡ cond passes cost 0 + sum → whole' ≡ cond passes' cost 0 + sum' → sum ≡ sum' → whole ≡ whole'
+added-same cost passes passes' sum sum' whole whole' same one two rest =
+    let here = counts cost passes passes' same in omega arith
+
 IsSameTo-cons : (depth cost : ℕ) (texts other : List (List ℕ)) (stacks others : List Costed)
     → AreAlike depth cost texts other → IsSameTo depth stacks others
     → IsSameTo depth (record { texts = texts; cost = cost } ∷ stacks) (record { texts = other; cost = cost } ∷ others)
 IsSameTo-cons depth cost texts other stacks others alike same = record {
   inclusive = λ front short.
-      let here = counts cost (has_front front texts) (has_front front other) (alike.begins front short) in
-      let one = inclusive-cons front (record { texts = texts; cost = cost }) stacks in
-      let two = inclusive-cons front (record { texts = other; cost = cost }) others in
-      let rest = same.inclusive front short in
-      omega arith;
+      added-same cost (has_front front texts) (has_front front other) _ _ _ _ (alike.begins front short)
+      (inclusive-cons front (record { texts = texts; cost = cost }) stacks)
+      (inclusive-cons front (record { texts = other; cost = cost }) others) (same.inclusive front short);
   own = λ front short.
-      let here = counts cost (is_front front texts) (is_front front other) (alike.is front short) in
-      let one = own-cons front (record { texts = texts; cost = cost }) stacks in
-      let two = own-cons front (record { texts = other; cost = cost }) others in
-      let rest = same.own front short in
-      omega arith;
+      added-same cost (is_front front texts) (is_front front other) _ _ _ _ (alike.is front short)
+      (own-cons front (record { texts = texts; cost = cost }) stacks)
+      (own-cons front (record { texts = other; cost = cost }) others) (same.own front short);
   least = λ front short.
       least-cons front (record { texts = texts; cost = cost }) stacks
       ∙ ap (λ (b : Bool). cond b 0 (1 + least front stacks))

@@ -151,10 +151,11 @@ root-more style tables stack own old begun new are begins gains =
     (ap (λ (ts : List (List ℕ)). ts ++ map text (reverse own)) start_is ∙ sym whole))
 
 -- a tree of either lists is that of the stacks
-pub StandFor-needed : (style : Style) (tables : TableState) (costs : List ℕ) (depth : ℕ) (fronts : List (List (List ℕ)))
-    → length costs ≡ length tables.nodes + 1 → fronts ≡ needed_lists FromAllocation style tables (depth + 1) costs
+pub StandFor-needed : (style : Style) (tables : TableState) (costs : List ℕ) (depth : ℕ)
+    → length costs ≡ length tables.nodes + 1 → (fronts : List (List (List ℕ)))
+    → fronts ≡ needed_lists FromAllocation style tables (depth + 1) costs
     → StandFor FromAllocation style tables costs depth fronts
-StandFor-needed style tables costs depth fronts as_many is = record {
+StandFor-needed style tables costs depth as_many fronts is = record {
   count =
       ap (λ (ls : List (List (List ℕ))). length ls) is ∙ needed_lists-count FromAllocation style tables
       (depth + 1) costs
@@ -164,11 +165,12 @@ StandFor-needed style tables costs depth fronts as_many is = record {
       (subst (λ (ls : List (List (List ℕ))). IsTreeOf tree (costed ls costs) depth) is tree_of);
 }
 
-pub StandFor-root : (style : Style) (tables : TableState) (costs : List ℕ) (depth : ℕ) (fronts : List (List (List ℕ)))
-    → length costs ≡ length tables.nodes + 1 → fronts ≡ lists_towards FromRoot style tables
+pub StandFor-root : (style : Style) (tables : TableState) (costs : List ℕ) (depth : ℕ)
+    → length costs ≡ length tables.nodes + 1 → (fronts : List (List (List ℕ)))
+    → fronts ≡ lists_towards FromRoot style tables
     → StandFor FromRoot style tables costs depth fronts
 unfolding lists_towards
-StandFor-root style tables costs depth fronts as_many is = record {
+StandFor-root style tables costs depth as_many fronts is = record {
   count =
       ap (λ (ls : List (List (List ℕ))). length ls) is
       ∙ length-map-range_with_len (λ n. reverse (stack_texts style tables n)) 0 (length tables.nodes + 1) ∙ sym as_many;
