@@ -1,6 +1,5 @@
 mod Lists
 mod Appends
-mod PlacesText
 mod LabelLemmas
 mod NumberLemmas
 mod SumLemmas

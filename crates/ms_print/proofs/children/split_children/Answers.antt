@@ -1,4 +1,4 @@
-use Rattle.std.proofs.Common.{◌≡◌, ℕ, ◌+◌, ◌-◌, ◌++◌, ◌∷◌, Vec, Global, List, [], arith, refl, sym, ap, subst, ◌∙◌}
+use Rattle.std.proofs.Common.{◌≡◌, ℕ, ◌+◌, ◌-◌, Vec, Global, List, [], arith, refl, sym, ap, subst, ◌∙◌}
 use Rattle.std.proofs.Common.{true, false, min, get_or, ◌^◌}
 use Rattle.massif_file.specs.TreeLine.{line_of}
 use Rattle.massif_file.specs.Trees.{Trees, no_tree}

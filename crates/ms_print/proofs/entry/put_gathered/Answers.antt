@@ -1,10 +1,6 @@
-use Rattle.hp_num.proofs.Laws.{extends_more, extends_put, extends_same, extends_trans}
+use Rattle.hp_num.proofs.Laws.{extends_more, extends_put, extends_same}
 use Rattle.ms_print.proofs.Appends.{five-kept, four-kept, three-kept}
 use Rattle.ms_print.proofs.entry.put_gathered.Goals as goal
-
-pub returns-in_err-put_places-clause-kept : goal.returns-in_err-put_places-clause-kept
-returns-in_err-put_places-clause-kept c =
-    extends_trans _ _ _ c.put_share.ensures.kept c.put_places.ensures.kept
 
 pub returns-in_err-put_bytes-clause-kept : goal.returns-in_err-put_bytes-clause-kept
 returns-in_err-put_bytes-clause-kept c =

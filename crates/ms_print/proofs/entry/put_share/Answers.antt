@@ -1,11 +1,6 @@
-use Rattle.hp_num.proofs.Laws.{extends_more, extends_put, extends_same, extends_trans}
+use Rattle.hp_num.proofs.Laws.{extends_more, extends_put, extends_same}
 use Rattle.ms_print.proofs.Appends.{four-kept, three-kept}
 use Rattle.ms_print.proofs.entry.put_share.Goals as goal
-
-pub returns-in_err-put_bytes-clause-kept : goal.returns-in_err-put_bytes-clause-kept
-returns-in_err-put_bytes-clause-kept c =
-    extends_trans _ _ _ (extends_more _ _ _ c.in_ok-put_percent.ensures.appended)
-    (extends_same _ _ c.in_err-put_bytes.ensures.unchanged)
 
 pub returns-in_err-put_commas-clause-kept : goal.returns-in_err-put_commas-clause-kept
 returns-in_err-put_commas-clause-kept c =

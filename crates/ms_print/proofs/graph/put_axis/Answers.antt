@@ -45,10 +45,6 @@ returns-clause-appended c =
     c.in_ok-put_bytes-4.ensures.appended last)
     c.put_bytes-5.ensures.appended
 
-pub returns-in_err-put_dashes-clause-kept : goal.returns-in_err-put_dashes-clause-kept
-returns-in_err-put_dashes-clause-kept c =
-    extends_trans _ _ _ (extends_more _ _ _ c.in_ok-put_bytes.ensures.appended) c.put_dashes.ensures.kept
-
 pub returns-in_err-label_of-clause-kept : goal.returns-in_err-label_of-clause-kept
 returns-in_err-label_of-clause-kept c =
     five-kept _ _ _ _ _ _ (extends_more _ _ _ c.in_ok-put_bytes.ensures.appended) c.put_dashes.ensures.kept

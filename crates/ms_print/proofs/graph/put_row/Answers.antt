@@ -1,10 +1,6 @@
 use Rattle.hp_num.proofs.Laws.{extends_put, extends_trans}
 use Rattle.ms_print.proofs.graph.put_row.Goals as goal
 
-pub returns-in_err-put_cells-clause-kept : goal.returns-in_err-put_cells-clause-kept
-returns-in_err-put_cells-clause-kept c =
-    extends_trans _ _ _ c.put_edge.ensures.kept c.put_cells.ensures.kept
-
 pub returns-clause-kept : goal.returns-clause-kept
 returns-clause-kept c =
     extends_trans _ _ _ (extends_trans _ _ _ c.put_edge.ensures.kept c.put_cells.ensures.kept)

@@ -3,7 +3,7 @@ use Rattle.std.specs.Prelude.{codes, decimal}
 use Rattle.std.proofs.lemmas.Result.{on_ok_weaker}
 use Rattle.ms_print.specs.SnapshotsText.{numbers_text, snapshots_text}
 use Rattle.ms_print.proofs.Appends.{five-appended, five-kept, four-kept, three-kept}
-use Rattle.hp_num.proofs.Laws.{extends_more, extends_put, extends_same, extends_trans}
+use Rattle.hp_num.proofs.Laws.{extends_more, extends_put, extends_same}
 use Rattle.ms_print.proofs.snapshots.put_snapshots.Goals as goal
 use Rattle.std.proofs.Common.{◌++◌, ℕ, ap, ◌∙◌}
 
@@ -19,11 +19,6 @@ returns-clause-appended c =
     (c.in_ok-put_dec.ensures.appended ∙ ap (λ (n : ℕ). c.put_bytes.new.out.items ++ decimal n) c.len.ensures.length)
     c.in_ok-put_bytes-2.ensures.appended c.in_ok-put_numbers.ensures.appended added)
     c.put_bytes-3.ensures.appended
-
-pub returns-in_err-put_dec-clause-kept : goal.returns-in_err-put_dec-clause-kept
-returns-in_err-put_dec-clause-kept c =
-    extends_trans _ _ _ (extends_more _ _ _ c.in_ok-put_bytes.ensures.appended)
-    (extends_same _ _ c.in_err-put_dec.ensures.unchanged)
 
 pub returns-in_err-put_bytes-2-clause-kept : goal.returns-in_err-put_bytes-2-clause-kept
 returns-in_err-put_bytes-2-clause-kept c =

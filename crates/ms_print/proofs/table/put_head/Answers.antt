@@ -31,10 +31,6 @@ returns-clause-kept c =
     c.in_ok-put_bytes-2.ensures.appended))
     c.put_rule-2.ensures.kept
 
-pub returns-in_err-put_bytes-clause-kept : goal.returns-in_err-put_bytes-clause-kept
-returns-in_err-put_bytes-clause-kept c =
-    extends_trans _ _ _ c.put_rule.ensures.kept (extends_same _ _ c.in_err-put_bytes.ensures.unchanged)
-
 pub returns-in_err-put_right-clause-kept : goal.returns-in_err-put_right-clause-kept
 returns-in_err-put_right-clause-kept c =
     three-kept _ _ _ _ c.put_rule.ensures.kept (extends_more _ _ _ c.in_ok-put_bytes.ensures.appended)

@@ -24,9 +24,6 @@ returns-clause-appended c =
     added)
     c.put_bytes.ensures.appended
 
-pub returns-in_err-put_column-clause-kept : goal.returns-in_err-put_column-clause-kept
-returns-in_err-put_column-clause-kept c = extends_trans _ _ _ c.put_number.ensures.kept c.put_column.ensures.kept
-
 pub returns-in_err-put_column-2-clause-kept : goal.returns-in_err-put_column-2-clause-kept
 returns-in_err-put_column-2-clause-kept c =
     three-kept _ _ _ _ c.put_number.ensures.kept c.put_column.ensures.kept c.put_column-2.ensures.kept

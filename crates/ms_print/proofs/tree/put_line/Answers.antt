@@ -1,11 +1,6 @@
-use Rattle.hp_num.proofs.Laws.{extends_more, extends_put, extends_same, extends_trans}
+use Rattle.hp_num.proofs.Laws.{extends_more, extends_put}
 use Rattle.ms_print.proofs.Appends.{four-kept, three-kept}
 use Rattle.ms_print.proofs.tree.put_line.Goals as goal
-
-pub returns-in_err-put_bytes-2-clause-kept : goal.returns-in_err-put_bytes-2-clause-kept
-returns-in_err-put_bytes-2-clause-kept c =
-    extends_trans _ _ _ (extends_more _ _ _ c.in_ok-put_bytes.ensures.appended)
-    (extends_same _ _ c.in_err-put_bytes-2.ensures.unchanged)
 
 pub returns-in_err-put_what-clause-kept : goal.returns-in_err-put_what-clause-kept
 returns-in_err-put_what-clause-kept c =

@@ -2,7 +2,7 @@ use Rattle.std.proofs.Common.{◌++◌, ℕ, [], List, sym, ap, ◌∙◌}
 use Rattle.std.specs.Prelude.{codes}
 use Rattle.std.proofs.lemmas.Result.{on_ok_weaker}
 use Rattle.massif_file.specs.TreeLine.{line_of}
-use Rattle.hp_num.proofs.Laws.{extends_more, extends_same, extends_trans}
+use Rattle.hp_num.proofs.Laws.{extends_more, extends_trans}
 use Rattle.ms_print.specs.Ends.{children_at}
 use Rattle.ms_print.specs.Entries.{entry_text}
 use Rattle.ms_print.specs.Shown.{shown}
@@ -30,10 +30,6 @@ returns-clause-appended c =
     ∙ ap (λ (text : List ℕ). c.args.out.now.items ++ text)
     (sym (root-is c.args.scale c.args.tree.now (line_of c.at-root.result) c.at-root.ensures.item)))
     c.put_entries.ensures.appended
-
-pub returns-in_err-put_bytes-clause-kept : goal.returns-in_err-put_bytes-clause-kept
-returns-in_err-put_bytes-clause-kept c =
-    extends_trans _ _ _ c.put_entry.ensures.kept (extends_same _ _ c.in_err-put_bytes.ensures.unchanged)
 
 pub returns-clause-kept : goal.returns-clause-kept
 returns-clause-kept c =
