@@ -22,23 +22,17 @@ same_heads x y xs ys same = ap (λ zs. get_or zs 0 x) same
 pub same_tails : {X : Type 0} (x y : X) (xs ys : List X) → x ∷ xs ≡ y ∷ ys → xs ≡ ys
 same_tails x y xs ys same = ap (λ zs. drop 1 zs) same
 
--- tests that answer alike find one place
-pub place-map : {X Y : Type 0} (p : X → Bool) (q : Y → Bool) (f : X → Y) (xs : List X)
+-- tests that answer alike find one place, or both none
+pub found-map : {X Y : Type 0} (p : X → Bool) (q : Y → Bool) (f : X → Y) (xs : List X)
     → ((k : ℕ) (d : X) → k < length xs → p (get_or xs k d) ≡ q (f (get_or xs k d)))
-    → position_or_len p xs ≡ position_or_len q (map f xs)
-place-map p q f [] alike = refl
-place-map {X} p q f (x ∷ xs) alike =
-    let rest = place-map p q f xs (λ k d within. alike (suc k) d (omega arith)) in
-    ap (λ (b : Bool). cond (not b) (1 + position_or_len p xs) 0) (alike 0 x (omega arith))
-    ∙ ap (λ (n : ℕ). cond (not (q (f x))) (1 + n) 0) rest
-
-pub any-map : {X Y : Type 0} (p : X → Bool) (q : Y → Bool) (f : X → Y) (xs : List X)
-    → ((k : ℕ) (d : X) → k < length xs → p (get_or xs k d) ≡ q (f (get_or xs k d)))
-    → list_any p xs ≡ list_any q (map f xs)
-any-map p q f [] alike = refl
-any-map {X} p q f (x ∷ xs) alike =
-    let rest = any-map p q f xs (λ k d within. alike (suc k) d (omega arith)) in
-    ap (λ (b : Bool). b || list_any p xs) (alike 0 x (omega arith)) ∙ ap (λ (b : Bool). q (f x) || b) rest
+    → (list_any p xs ≡ list_any q (map f xs)) × (position_or_len p xs ≡ position_or_len q (map f xs))
+found-map p q f [] alike = (refl, refl)
+found-map {X} p q f (x ∷ xs) alike =
+    let rest = found-map p q f xs (λ k d within. alike (suc k) d (omega arith)) in (
+      ap (λ (b : Bool). b || list_any p xs) (alike 0 x (omega arith)) ∙ ap (λ (b : Bool). q (f x) || b) rest.0,
+      ap (λ (b : Bool). cond (not b) (1 + position_or_len p xs) 0) (alike 0 x (omega arith))
+          ∙ ap (λ (n : ℕ). cond (not (q (f x))) (1 + n) 0) rest.1,
+    )
 
 -- what holds of each element holds of those of a front
 pub all-front : {X : Type 0} (P : X → Type 0) (xs ys : List X) → All P (xs ++ ys) → All P xs

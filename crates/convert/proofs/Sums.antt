@@ -18,7 +18,7 @@ use Rattle.cost_tree.specs.Texts.{IsText, texts_of}
 use Rattle.convert.specs.Numbers.{AreSums}
 use Rattle.convert.proofs.Folding.{is_front-Decides, lists-distinct, lists-more, lists-zero, own-gains, own-kept}
 use Rattle.convert.proofs.Folding.{own-more, own-none, own-within, own-zero, cost_of}
-use Rattle.convert.proofs.Lists.{any-map, place-map}
+use Rattle.convert.proofs.Lists.{found-map}
 use Rattle.convert.proofs.Names.{same_test}
 
 -- the item of a list of numbers
@@ -29,22 +29,18 @@ item_at names list number = record { texts = texts_of names list; cost = number 
 abbrev pub is_key : List ℕ → Vec ℕ → Bool
 is_key list key = bytes_eq list key.items
 
--- it answers as that of the texts
-pub key-any : (names : List (List ℕ)) (keys : List (Vec ℕ)) (sums : List ℕ) (items : List Costed) (list : List ℕ)
+-- it answers as that of the texts, and finds the same place
+key-found : (names : List (List ℕ)) (keys : List (Vec ℕ)) (sums : List ℕ) (items : List Costed) (list : List ℕ)
     → AreSums names keys sums items → All (IsText names) list
-    → list_any (is_key list) keys ≡ list_any (is_front (texts_of names list)) (folded_lists items)
-key-any names keys sums items list are held =
-    any-map (is_key list) (is_front (texts_of names list)) (λ key. texts_of names key.items) keys
-    (λ k d within. same_test names list (get_or keys k d).items are.distinct held (are.held k d within))
-    ∙ ap (λ (ls : List (List (List ℕ))). list_any (is_front (texts_of names list)) ls) are.lists
-
-key-place : (names : List (List ℕ)) (keys : List (Vec ℕ)) (sums : List ℕ) (items : List Costed) (list : List ℕ)
-    → AreSums names keys sums items → All (IsText names) list
-    → position_or_len (is_key list) keys ≡ position_or_len (is_front (texts_of names list)) (folded_lists items)
-key-place names keys sums items list are held =
-    place-map (is_key list) (is_front (texts_of names list)) (λ key. texts_of names key.items) keys
-    (λ k d within. same_test names list (get_or keys k d).items are.distinct held (are.held k d within))
-    ∙ ap (λ (ls : List (List (List ℕ))). position_or_len (is_front (texts_of names list)) ls) are.lists
+    → (list_any (is_key list) keys ≡ list_any (is_front (texts_of names list)) (folded_lists items))
+    × (position_or_len (is_key list) keys ≡ position_or_len (is_front (texts_of names list)) (folded_lists items))
+key-found names keys sums items list are held =
+    let found =
+    found-map (is_key list) (is_front (texts_of names list)) (λ key. texts_of names key.items) keys
+    (λ k d within. same_test names list (get_or keys k d).items are.distinct held (are.held k d within)) in (
+      found.0 ∙ ap (λ (ls : List (List (List ℕ))). list_any (is_front (texts_of names list)) ls) are.lists,
+      found.1 ∙ ap (λ (ls : List (List (List ℕ))). position_or_len (is_front (texts_of names list)) ls) are.lists,
+    )
 
 -- the number 0 changes nothing
 pub zero-added : (names : List (List ℕ)) (keys : List (Vec ℕ)) (sums : List ℕ) (items : List Costed) (list : List ℕ)
@@ -77,7 +73,7 @@ pub new-added : (names : List (List ℕ)) (keys : List (Vec ℕ)) (sums : List �
 new-added names keys sums items key list number are held copied some absent =
     let item : Costed = item_at names list number in
     let F : List (List (List ℕ)) = folded_lists items in
-    let none : list_any (is_front item.texts) F ≡ false = sym (key-any names keys sums items list are held) ∙ absent in
+    let none : list_any (is_front item.texts) F ≡ false = sym (key-found names keys sums items list are held).0 ∙ absent in
     let lists_are : folded_lists (items ++ item ∷ []) ≡ F ++ item.texts ∷ [] =
     lists-more items item some ∙ cond-false _ F (F ++ item.texts ∷ []) none in
     let mine =
@@ -112,7 +108,7 @@ pub old-added : (names : List (List ℕ)) (keys : List (Vec ℕ)) (sums new_sums
 old-added names keys sums new_sums items list number are held some present new_is =
     let item : Costed = item_at names list number in
     let F : List (List (List ℕ)) = folded_lists items in
-    let one : list_any (is_front item.texts) F ≡ true = sym (key-any names keys sums items list are held) ∙ present in
+    let one : list_any (is_front item.texts) F ≡ true = sym (key-found names keys sums items list are held).0 ∙ present in
     let lists_are : folded_lists (items ++ item ∷ []) ≡ F =
     lists-more items item some ∙ cond-true _ F (F ++ item.texts ∷ []) one in
     record {
@@ -121,7 +117,7 @@ old-added names keys sums new_sums items list number are held some present new_i
       lists = are.lists ∙ sym lists_are;
       sums_are =
           new_is
-          ∙ ap (λ (k : ℕ). set sums k (get_or sums k 0 + number)) (key-place names keys sums items list are held)
+          ∙ ap (λ (k : ℕ). set sums k (get_or sums k 0 + number)) (key-found names keys sums items list are held).1
           ∙ ap
           (λ (ns : List ℕ). set ns (position_or_len (is_front item.texts) F)
           (get_or ns (position_or_len (is_front item.texts) F) 0 + number))

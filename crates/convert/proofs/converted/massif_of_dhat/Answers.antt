@@ -1,12 +1,31 @@
-use Rattle.std.proofs.Common.{arith, Err, sym, ap, subst, ◌∙◌}
+use Rattle.std.proofs.Common.{◌≡◌, arith, Err, None, sym, ap, subst, ◌∙◌}
 use Rattle.std.proofs.lemmas.Option.{none-some, same_Some}
 use Rattle.massif_file.specs.declared.profile.Profile.{Profile}
 use Rattle.massif_file.specs.IsWritable.{IsWritable}
 use Rattle.convert.specs.declared.fault.ConvertFault.TheVariants.{NoFigures, TooLarge}
 use Rattle.convert.specs.AreTreeSums.{HaveTreeSums}
+use Rattle.convert.specs.ConvertFault.{converted_fault}
 use Rattle.convert.proofs.Faults.{all-small, large-end, large-peak, late-end, no-lives}
-use Rattle.convert.proofs.Writable.{converted-sums, converted-writable}
+use Rattle.convert.proofs.Writable.{AreLaws, converted-sums, converted-writable}
 use Rattle.convert.proofs.converted.massif_of_dhat.Goals as goal
+use Rattle.convert.proofs.converted.massif_of_dhat.Goals.{After-shown_texts, In-Some-figures_sum}
+
+laws : (c : After-shown_texts) → AreLaws
+laws c = record {
+  right = c.massif_trees.ensures.right;
+  writable = c.massif_trees.ensures.writable;
+  no_line_feed = c.shown_texts.ensures.no_line_feed;
+  begin = c.shown_texts.ensures.begin;
+  again = c.shown_texts.ensures.again;
+}
+
+-- nothing stands against the conversion where both sums are at most 2^62
+small : (c : In-Some-figures_sum) → converted_fault c.args.dhat.now ≡ None
+small c =
+    all-small c.args.dhat.now c.if-not-dhat.false
+    (let within = c.if-dhat-gt-MOST.false in omega arith)
+    (let total = c.in-Some.ensures.sum in let within = c.in-Some.ensures.within in omega arith)
+    (let total = c.in-Some-figures_sum.ensures.sum in let within = c.in-Some-figures_sum.ensures.within in omega arith)
 
 pub returns-then-not-dhat-clause-fault : goal.returns-then-not-dhat-clause-fault
 returns-then-not-dhat-clause-fault c = λ other. no-lives c.args.dhat.now c.if-not-dhat.true
@@ -45,14 +64,7 @@ returns-in_default-figures_sum-clause-refused c = λ fault is.
 pub returns-in-Ok-clause-writable : goal.returns-in-Ok-clause-writable
 returns-in-Ok-clause-writable c =
     subst IsWritable (sym c.in-Ok.ensures.profile)
-    (converted-writable
-    (record {
-      right = c.massif_trees.ensures.right;
-      writable = c.massif_trees.ensures.writable;
-      no_line_feed = c.shown_texts.ensures.no_line_feed;
-      begin = c.shown_texts.ensures.begin;
-      again = c.shown_texts.ensures.again;
-    })
+    (converted-writable (laws (goal.at.returns-in-Ok-clause-writable c).After-shown_texts)
     c.args.dhat.now c.requires.sound
     (record {
       time = (let within = c.if-dhat-gt-MOST.false in omega arith);
@@ -65,35 +77,15 @@ returns-in-Ok-clause-writable c =
 pub returns-in-Ok-clause-sums : goal.returns-in-Ok-clause-sums
 returns-in-Ok-clause-sums c =
     subst (λ (profile : Profile). HaveTreeSums c.args.dhat.now profile) (sym c.in-Ok.ensures.profile)
-    (converted-sums
-    (record {
-      right = c.massif_trees.ensures.right;
-      writable = c.massif_trees.ensures.writable;
-      no_line_feed = c.shown_texts.ensures.no_line_feed;
-      begin = c.shown_texts.ensures.begin;
-      again = c.shown_texts.ensures.again;
-    })
-    c.args.dhat.now c.requires.sound)
+    (converted-sums (laws (goal.at.returns-in-Ok-clause-sums c).After-shown_texts) c.args.dhat.now c.requires.sound)
 
 pub returns-in-Ok-clause-no_fault : goal.returns-in-Ok-clause-no_fault
-returns-in-Ok-clause-no_fault c =
-    all-small c.args.dhat.now c.if-not-dhat.false
-    (let within = c.if-dhat-gt-MOST.false in omega arith)
-    (let total = c.in-Some.ensures.sum in let within = c.in-Some.ensures.within in omega arith)
-    (let total = c.in-Some-figures_sum.ensures.sum in let within = c.in-Some-figures_sum.ensures.within in omega arith)
+returns-in-Ok-clause-no_fault c = small (goal.at.returns-in-Ok-clause-no_fault c).In-Some-figures_sum
 
 pub returns-in-Ok-clause-refused : goal.returns-in-Ok-clause-refused
 returns-in-Ok-clause-refused c = λ fault is.
-    absurd (none-some fault (sym (all-small c.args.dhat.now c.if-not-dhat.false
-    (let within = c.if-dhat-gt-MOST.false in omega arith)
-    (let total = c.in-Some.ensures.sum in let within = c.in-Some.ensures.within in omega arith)
-    (let total = c.in-Some-figures_sum.ensures.sum in let within = c.in-Some-figures_sum.ensures.within in omega arith))
-    ∙ is))
+    absurd (none-some fault (sym (small (goal.at.returns-in-Ok-clause-refused c).In-Some-figures_sum) ∙ is))
 
 pub returns-in-Err-clause-refused : goal.returns-in-Err-clause-refused
 returns-in-Err-clause-refused c = λ fault is.
-    absurd (none-some fault (sym (all-small c.args.dhat.now c.if-not-dhat.false
-    (let within = c.if-dhat-gt-MOST.false in omega arith)
-    (let total = c.in-Some.ensures.sum in let within = c.in-Some.ensures.within in omega arith)
-    (let total = c.in-Some-figures_sum.ensures.sum in let within = c.in-Some-figures_sum.ensures.within in omega arith))
-    ∙ is))
+    absurd (none-some fault (sym (small (goal.at.returns-in-Err-clause-refused c).In-Some-figures_sum) ∙ is))
