@@ -1,10 +1,8 @@
 //! From a raw trace to an interpreted one, with a table of symbols or without.
-ghost use Rattle.std.specs.Prelude.{◌^◌, ◌<◌, [], ◌∷◌};
+ghost use Rattle.std.specs.Prelude.{◌^◌, ◌<◌};
 ghost use Rattle.std.specs.Option.{option_copied};
-ghost use Rattle.command_frame.specs.Plan.{one_file, two_files};
 ghost use Rattle.command_frame.specs.RunsTo.{Runs};
-ghost use Rattle.interpret.specs.SymbolList.{symbols_of};
-ghost use Rattle.trace_reports.specs.InterpretReport.{files_with, interpret_report, plan_with, symbols_report};
+ghost use Rattle.trace_reports.specs.InterpretReport.{files_with, plan_with};
 
 use crate::interpret_reader::{RawReader, SymbolReader, SymbolsAndTrace};
 use command_frame::{Halt, PairNames, RunContext, run_one_file, run_pair};
@@ -27,49 +25,21 @@ pub fn run_interpret<S: Store, O: Sink>(
         store.old store.new out.old out.new result }
 {
     match symbols {
-        Some(symbols) => run_with(context, symbols, trace, store, out),
-        None => run_alone(context, trace, store, out),
+        Some(symbols) => {
+            let names = PairNames {
+                first: symbols,
+                second: trace,
+            };
+            let reader = SymbolReader {
+                symbols: Symbols::new(context.alloc),
+            };
+            run_pair(context, &names, &SymbolsAndTrace, reader, store, out)
+        }
+        None => {
+            let reader = RawReader {
+                interpreter: Interpreter::new(context.alloc, Symbols::new(context.alloc)),
+            };
+            run_one_file(context, trace, reader, store, out)
+        }
     }
-}
-
-/// Interprets the named trace with the named table of symbols.
-fn run_with<S: Store, O: Sink>(
-    context: &RunContext,
-    symbols: &str,
-    trace: &str,
-    store: &mut S,
-    out: &mut O,
-) -> Result<Vec<u8>, Halt>
-    requires { S.opens store.old < 2 ^ 63 }
-    ensures { Runs S.Store O.Sink context.now (symbols.now ∷ trace.now ∷ [])
-        (two_files symbols.now symbols_report trace.now
-        (λ lines. interpret_report (symbols_of lines)))
-        store.old store.new out.old out.new result }
-{
-    let names = PairNames {
-        first: symbols,
-        second: trace,
-    };
-    let reader = SymbolReader {
-        symbols: Symbols::new(context.alloc),
-    };
-    run_pair(context, &names, &SymbolsAndTrace, reader, store, out)
-}
-
-/// Interprets the named trace without symbols.
-fn run_alone<S: Store, O: Sink>(
-    context: &RunContext,
-    trace: &str,
-    store: &mut S,
-    out: &mut O,
-) -> Result<Vec<u8>, Halt>
-    requires { S.opens store.old < 2 ^ 63 }
-    ensures { Runs S.Store O.Sink context.now (trace.now ∷ [])
-        (one_file trace.now (interpret_report []))
-        store.old store.new out.old out.new result }
-{
-    let reader = RawReader {
-        interpreter: Interpreter::new(context.alloc, Symbols::new(context.alloc)),
-    };
-    run_one_file(context, trace, reader, store, out)
 }
