@@ -28,21 +28,15 @@ returns-in_err-digit-clause-parsed c =
 
 pub overflow_mul-value : goal.overflow_mul-value
 overflow_mul-value c =
-    omega (
-      arith,
-      c.loop-byte.invariant.value,
-      room_for_digit c.args.text.now c.loop-byte.byte-index (omega arith) (omega arith) c.loop-byte.invariant.digits,
-    )
+    let room =
+    room_for_digit c.args.text.now c.loop-byte.byte-index (omega arith) (omega arith) c.loop-byte.invariant.digits in
+    omega arith
 
 pub overflow_add-value : goal.overflow_add-value
 overflow_add-value c =
-    omega (
-      arith,
-      c.loop-byte.invariant.value,
-      c.from.ensures,
-      c.in_ok-digit.ensures,
-      room_for_digit c.args.text.now c.loop-byte.byte-index (omega arith) (omega arith) c.loop-byte.invariant.digits,
-    )
+    let room =
+    room_for_digit c.args.text.now c.loop-byte.byte-index (omega arith) (omega arith) c.loop-byte.invariant.digits in
+    omega (arith, c.in_ok-digit.ensures)
 
 pub loop-byte-preserved : goal.loop-byte-preserved
 loop-byte-preserved c =

@@ -1,5 +1,5 @@
 -- The bytes are those of the text.
-use Rattle.std.proofs.Common.{sym, arith}
+use Rattle.std.proofs.Common.{arith}
 use Rattle.hp_num.proofs.PercentTexts.{below_text, percent_full}
 use Rattle.hp_num.proofs.percent.put_percent.Goals as goal
 
@@ -13,14 +13,10 @@ returns-then-hundredths-eq-WHOLE-clause-room c =
 
 pub returns-clause-appended : goal.returns-clause-appended
 returns-clause-appended c =
-    rw (sym
-    (below_text c.args.hundredths c.digit.result c.digit-2.result c.digit-3.result c.digit-4.result (omega arith)
-    c.digit.ensures c.digit-2.ensures c.digit-3.ensures c.digit-4.ensures))
-    c.put_bytes-2.ensures.appended
+    rw (← below_text c.args.hundredths _ _ _ _ (omega arith) c.digit.ensures c.digit-2.ensures c.digit-3.ensures
+    c.digit-4.ensures) c.put_bytes-2.ensures.appended
 
 pub returns-clause-room : goal.returns-clause-room
 returns-clause-room c =
-    rw (sym
-    (below_text c.args.hundredths c.digit.result c.digit-2.result c.digit-3.result c.digit-4.result (omega arith)
-    c.digit.ensures c.digit-2.ensures c.digit-3.ensures c.digit-4.ensures))
-    c.put_bytes-2.ensures.room
+    rw (← below_text c.args.hundredths _ _ _ _ (omega arith) c.digit.ensures c.digit-2.ensures c.digit-3.ensures
+    c.digit-4.ensures) c.put_bytes-2.ensures.room
