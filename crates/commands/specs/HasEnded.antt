@@ -51,10 +51,10 @@ EndsWords s o e context words store out err store_now out_now err_now status =
     (outside s o e store_now out_now err_now) status
 
 -- the words of a command were run, as they were read
-abbrev pub EndsRead : {S O E A R : Type 0} → store.Ghosts S → sink.Ghosts O → sink.Ghosts E
-    → RunContext → CommandOf A → (R → A) → Result R WordsFault → S → O → E → S → O → E → ℕ → Type 0
-EndsRead s o e context command asked_by request store out err store_now out_now err_now status =
-    (words : List (List ℕ)) → Reads command asked_by words request
+abbrev pub EndsRead : {S O E R : Type 0} → store.Ghosts S → sink.Ghosts O → sink.Ghosts E
+    → RunContext → CommandOf R → Result R WordsFault → S → O → E → S → O → E → ℕ → Type 0
+EndsRead s o e context command request store out err store_now out_now err_now status =
+    (words : List (List ℕ)) → Reads command words request
     → HasEnded context (task_by command words) (outside s o e store out err)
     (outside s o e store_now out_now err_now) status
 

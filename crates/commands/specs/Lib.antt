@@ -1,4 +1,5 @@
 pub mod NumberWords
+pub mod NameWords
 pub mod KeyWords
 pub mod Command
 pub mod SummaryCommand

@@ -6,39 +6,23 @@ use Rattle.std.specs.Option.{option_map}
 use Rattle.std.specs.Str.{bytes_eq}
 use Rattle.clap.specs.Words.{Row}
 use Rattle.command_frame.specs.Silent.{IsSilent}
+use Rattle.command_frame.specs.Task.{Task}
 use Rattle.command_words.specs.WordsTaken.{only_file_in, value_in}
 use Rattle.ht_print.specs.declared.options.PrintOptions.{PrintOptions}
 use Rattle.trace_reading.specs.SuppressionsReport.{names_behind, plan_behind}
 use Rattle.trace_reports.specs.PrintReport.{report_written}
 use Rattle.commands.specs.declared.print_command.PrintRequest.{PrintRequest}
-use Rattle.commands.specs.Command.{CommandOf, by_setting}
+use Rattle.commands.specs.Command.{CommandOf, by_setting, with_file}
+use Rattle.commands.specs.NameWords.{meaning_or}
 use Rattle.commands.specs.NumberWords.{number_or}
 
--- which trace and which suppressions file, if any, and what is shown
-pub record PrintAsked : Type 0 where
-  pub trace : List ℕ
-  pub suppressions : Option (List ℕ)
-  pub options : PrintOptions
-
--- what a request asks for
-abbrev pub print_asked_by : PrintRequest → PrintAsked
-print_asked_by request = record {
-  trace = request.trace.now;
-  suppressions = option_map (λ name. name.now) request.suppressions;
-  options = request.options;
-}
-
 -- what the value of a switch says
-abbrev pub switch_named : List ℕ → Option Bool
-switch_named value =
-    if bytes_eq value (codes "1") then Some true
-    else if bytes_eq value (codes "0") then Some false
-    else None
+abbrev pub switches : List (List ℕ × Bool)
+switches = (codes "1", true) ∷ (codes "0", false) ∷ []
 
 -- whether something is switched on; a switch that isn't given has a setting too
 abbrev pub switch_or : Bool → Option (List ℕ) → Option Bool
-switch_or absent None = Some absent
-switch_or absent (Some value) = switch_named value
+switch_or absent value = meaning_or absent switches value
 
 -- how many entries may be shown
 abbrev pub most_entries : ℕ
@@ -76,35 +60,35 @@ reads_input_twice None trace = false
 reads_input_twice (Some suppressions) trace = bytes_eq suppressions (codes "-")
     && bytes_eq trace (codes "-")
 
--- what two files, the first of which may be absent, and the options ask for
-abbrev pub print_of : Option (List ℕ) → PrintOptions → List ℕ → Option PrintAsked
-print_of suppressions options trace =
-    if reads_input_twice suppressions trace then None
-    else Some (record { trace = trace; suppressions = suppressions; options = options })
+-- one trace behind suppressions or none, with what is shown; the report is written once all lines were read
+abbrev pub print_task : Option (List ℕ) → List ℕ → PrintOptions → Task
+print_task suppressions trace options = record {
+  names = names_behind suppressions trace;
+  plan = plan_behind suppressions trace (report_written options);
+}
 
--- what the rows of taken words ask for
-abbrev pub print_given : List Row → Option PrintAsked
+-- what is done for two files, the first of which may be absent
+abbrev pub print_of : Option (List ℕ) → List ℕ → PrintOptions → Option Task
+print_of suppressions trace options =
+    if reads_input_twice suppressions trace then None else Some (print_task suppressions trace options)
+
+-- what is done for the rows of taken words
+abbrev pub print_given : List Row → Option Task
 print_given rows =
     by_setting (only_file_in rows) (λ trace.
     by_setting (options_given rows) (λ options.
-    print_of (value_in rows (codes "suppressions")) options trace))
+    print_of (value_in rows (codes "suppressions")) trace options))
 
--- nine options, and one file; a report is written once all lines were read
-abbrev pub print : CommandOf PrintAsked
+abbrev pub print : CommandOf PrintRequest
 print = record {
-  table = record {
-    options = codes "print-allocators" ∷ codes "print-peaks" ∷ codes "print-leaks"
-        ∷ codes "print-temporary" ∷ codes "merge-backtraces"
-        ∷ codes "histogram" ∷ codes "peak-limit" ∷ codes "sub-peak-limit" ∷ codes "suppressions"
-        ∷ [];
-    flags = [];
-    files = true;
-  };
+  table = with_file
+      (codes "print-allocators" ∷ codes "print-peaks" ∷ codes "print-leaks"
+      ∷ codes "print-temporary" ∷ codes "merge-backtraces"
+      ∷ codes "histogram" ∷ codes "peak-limit" ∷ codes "sub-peak-limit" ∷ codes "suppressions"
+      ∷ []);
   given = λ words rows. print_given rows;
-  task = λ asked. record {
-    names = names_behind asked.suppressions asked.trace;
-    plan = plan_behind asked.suppressions asked.trace (report_written asked.options);
-  };
+  task = λ request.
+      print_task (option_map (λ name. name.now) request.suppressions) request.trace.now request.options;
 }
 
 -- nothing is written while a trace is read behind suppressions or none
@@ -115,6 +99,6 @@ behind_is_silent None trace text = (λ earlier line. refl, λ lines. tt)
 behind_is_silent (Some name) trace text
     = (λ earlier line. refl, λ texts. (λ earlier line. refl, λ lines. tt))
 
-pub print_is_silent : (asked : PrintAsked) → IsSilent (print.task asked).plan
-print_is_silent asked = behind_is_silent asked.suppressions asked.trace
-    (report_written asked.options)
+pub print_is_silent : (suppressions : Option (List ℕ)) (trace : List ℕ) (options : PrintOptions)
+    → IsSilent (print_task suppressions trace options).plan
+print_is_silent suppressions trace options = behind_is_silent suppressions trace (report_written options)

@@ -1,18 +1,14 @@
 -- `summary`: the figures of the one trace that its words name.
-use Rattle.std.specs.Prelude.{ℕ, List, [], ◌∷◌, true, refl}
+use Rattle.std.specs.Prelude.{ℕ, List, refl}
 use Rattle.command_frame.specs.Silent.{IsSilent}
-use Rattle.command_words.specs.WordsTaken.{only_file_in}
 use Rattle.trace_reports.specs.SummaryReport.{summary_plan}
-use Rattle.commands.specs.Command.{CommandOf}
+use Rattle.commands.specs.declared.summary_command.SummaryRequest.{SummaryRequest}
+use Rattle.commands.specs.Command.{CommandOf, plain}
 
--- one file, and no option; the name of the trace is all that is asked
-abbrev pub summary : CommandOf (List ℕ)
-summary = record {
-  table = record { options = []; flags = []; files = true };
-  given = λ words rows. only_file_in rows;
-  task = λ trace. record { names = trace ∷ []; plan = summary_plan trace };
-}
+-- the name of the trace is all that is asked
+abbrev pub summary : CommandOf SummaryRequest
+summary = plain (λ request. request.trace.now) summary_plan
 
 -- nothing is written while it reads
-pub summary_is_silent : (trace : List ℕ) → IsSilent (summary.task trace).plan
+pub summary_is_silent : (trace : List ℕ) → IsSilent (summary_plan trace)
 summary_is_silent trace = (λ earlier line. refl, λ lines. tt)

@@ -1,35 +1,17 @@
 //! `convert`: what one DHAT profile or Massif file is converted to.
 ghost use Rattle.std.specs.Prelude.{option_map, ◌≡◌};
-ghost use Rattle.commands.specs.ConvertCommand.{conversion_given, kind_named, kind_or};
-ghost use Rattle.commands.specs.ConvertCommand.{snapshot_or, target_named, target_or};
+ghost use Rattle.commands.specs.ConvertCommand.{conversion_given, convert, snapshot_or};
 
-use crate::command::{Command, Request};
+use crate::command::{Command, Ran, Request, take_with_file};
 use crate::key_words::key_or;
+use crate::name_words::meaning_or;
 use crate::number_words::number_if_given;
-use command_frame::{Halt, RunContext};
-use command_words::{TakenWords, WordTable};
+use command_frame::RunContext;
+use command_words::{TakenWords, WordsFault};
 use dhat_json::FigureKey;
 use hp_outside::{Sink, Store};
 use profile_reports::{Conversion, run_conversion};
-
-/// The option that says what kind of file is read.
-const FROM: &str = "from";
-
-/// The option that says what is written of it.
-const TO: &str = "to";
-
-/// The option that names the figure.
-const KEY: &str = "key";
-
-/// The option that chooses the snapshot.
-const SNAPSHOT: &str = "snapshot";
-
-/// Four options, and one file.
-const WORDS: WordTable<'static> = WordTable {
-    options: &[FROM, TO, KEY, SNAPSHOT],
-    flags: &[],
-    files: true,
-};
+use std::alloc::Global;
 
 /// What kind of file is read.
 #[derive(Clone, Copy)]
@@ -45,6 +27,12 @@ pub enum Target {
     Massif,
 }
 
+/// The names of kinds of files.
+const KINDS: &[(&str, FileKind)] = &[("dhat", FileKind::Dhat), ("massif", FileKind::Massif)];
+
+/// The names of what is written.
+const TARGETS: &[(&str, Target)] = &[("folded", Target::Folded), ("massif", Target::Massif)];
+
 /// What `convert` is to do.
 #[derive(Clone, Copy)]
 pub struct ConvertRequest<'a> {
@@ -55,42 +43,26 @@ pub struct ConvertRequest<'a> {
 }
 
 impl Command for ConvertRequest<'_> {
-    ghost use Rattle.commands.specs.ConvertCommand.{ConvertAsked, convert, convert_asked_by};
-
     type Rest = Vec<u8>;
-
-    ghost Asked = { ConvertAsked };
-
-    ghost asked_by = { convert_asked_by };
 
     ghost command = { convert };
 
-    fn run<S: Store, O: Sink>(
-        &self,
-        context: &RunContext,
-        store: &mut S,
-        out: &mut O,
-    ) -> Result<Vec<u8>, Halt> {
+    fn run<S: Store, O: Sink>(&self, context: &RunContext, store: &mut S, out: &mut O) -> Ran {
         run_conversion(context, self.file, self.conversion, store, out)
     }
 }
 
 impl<'a> Request<'a> for ConvertRequest<'a> {
-    ghost use Rattle.command_words.specs.TableApp.{table_of};
-    ghost use Rattle.commands.specs.ConvertCommand.{convert};
-
-    fn table() -> WordTable<'static>
-        ensures { table_of result ≡ convert.table }
-    {
-        WORDS
+    fn take(alloc: Global, words: &'a [String]) -> Result<TakenWords<'a>, WordsFault> {
+        take_with_file(alloc, &["from", "to", "key", "snapshot"], words)
     }
 
-    fn request_in(_words: &'a [String], taken: &TakenWords<'a>) -> Option<ConvertRequest<'a>> {
+    fn request_in(_words: &'a [String], taken: &TakenWords<'a>) -> Option<Self> {
         let file = taken.only_file()?;
-        let from = kind_or(taken.value(FROM))?;
-        let to = target_or(taken.value(TO))?;
-        let key = key_or(taken.value(KEY))?;
-        let snapshot = snapshot_or(taken.value(SNAPSHOT))?;
+        let from = meaning_or(FileKind::Dhat, KINDS, taken.value("from"))?;
+        let to = meaning_or(Target::Folded, TARGETS, taken.value("to"))?;
+        let key = key_or(taken.value("key"))?;
+        let snapshot = snapshot_or(taken.value("snapshot"))?;
         let conversion = conversion_given(from, to, key, snapshot)?;
         Some(ConvertRequest { file, conversion })
     }
@@ -110,47 +82,6 @@ fn conversion_given(
         (FileKind::Dhat, Target::Massif) => Some(Conversion::MassifOfDhat),
         (FileKind::Massif, Target::Folded) => Some(Conversion::FoldedMassif(snapshot)),
         (FileKind::Massif, Target::Massif) => None,
-    }
-}
-
-/// The kind of file that the words name: a DHAT profile where they name none.
-fn kind_or(value: Option<&str>) -> Option<FileKind>
-    ensures { result ≡ kind_or (option_map (λ text. text.now) value.entry) }
-{
-    match value {
-        Some(name) => kind_named(name),
-        None => Some(FileKind::Dhat),
-    }
-}
-
-fn kind_named(name: &str) -> Option<FileKind>
-    ensures { result ≡ kind_named name.now }
-{
-    match name {
-        "dhat" => Some(FileKind::Dhat),
-        "massif" => Some(FileKind::Massif),
-        _ => None,
-    }
-}
-
-/// What the words ask to be written: folded lines where they name nothing.
-fn target_or(value: Option<&str>) -> Option<Target>
-    ensures { result ≡ target_or (option_map (λ text. text.now) value.entry) }
-{
-    match value {
-        Some(name) => target_named(name),
-        None => Some(Target::Folded),
-    }
-}
-
-/// What is to be written, by its name.
-fn target_named(name: &str) -> Option<Target>
-    ensures { result ≡ target_named name.now }
-{
-    match name {
-        "folded" => Some(Target::Folded),
-        "massif" => Some(Target::Massif),
-        _ => None,
     }
 }
 

@@ -1,24 +1,25 @@
 //! `flame`: the flame stacks of one trace.
-ghost use Rattle.std.specs.Prelude.{codes, ◌≡◌};
-ghost use Rattle.command_words.specs.WordsTaken.{rows_in, value_in};
-ghost use Rattle.commands.specs.FlameCommand.{cost_named, cost_or};
+ghost use Rattle.commands.specs.FlameCommand.{flame};
 
-use crate::command::{Command, Request};
-use command_frame::{Halt, Paged, RunContext};
-use command_words::{TakenWords, WordTable};
+use crate::command::{Command, Ran, Request, take_with_file};
+use crate::name_words::meaning_or;
+use command_frame::{Paged, RunContext};
+use command_words::{TakenWords, WordsFault};
 use hp_outside::{Sink, Store};
 use ht_print::FlameCost;
+use std::alloc::Global;
 use trace_reports::{FlameText, run_flame};
 
 /// The option that names the cost.
 const COST: &str = "flamegraph-cost-type";
 
-/// One option, and one file.
-const WORDS: WordTable<'static> = WordTable {
-    options: &[COST],
-    flags: &[],
-    files: true,
-};
+/// The names of costs.
+const COSTS: &[(&str, FlameCost)] = &[
+    ("allocations", FlameCost::Allocations),
+    ("temporary", FlameCost::Temporary),
+    ("leaked", FlameCost::Leaked),
+    ("peak", FlameCost::Peak),
+];
 
 /// What `flame` is to do.
 #[derive(Clone, Copy)]
@@ -30,13 +31,7 @@ pub struct FlameRequest<'a> {
 }
 
 impl Command for FlameRequest<'_> {
-    ghost use Rattle.commands.specs.FlameCommand.{FlameAsked, flame, flame_asked_by};
-
     type Rest = Paged<FlameText>;
-
-    ghost Asked = { FlameAsked };
-
-    ghost asked_by = { flame_asked_by };
 
     ghost command = { flame };
 
@@ -45,46 +40,19 @@ impl Command for FlameRequest<'_> {
         context: &RunContext,
         store: &mut S,
         out: &mut O,
-    ) -> Result<Paged<FlameText>, Halt> {
+    ) -> Ran<Paged<FlameText>> {
         run_flame(context, self.trace, self.cost, store, out)
     }
 }
 
 impl<'a> Request<'a> for FlameRequest<'a> {
-    ghost use Rattle.command_words.specs.TableApp.{table_of};
-    ghost use Rattle.commands.specs.FlameCommand.{flame};
-
-    fn table() -> WordTable<'static>
-        ensures { table_of result ≡ flame.table }
-    {
-        WORDS
+    fn take(alloc: Global, words: &'a [String]) -> Result<TakenWords<'a>, WordsFault> {
+        take_with_file(alloc, &[COST], words)
     }
 
-    fn request_in(_words: &'a [String], taken: &TakenWords<'a>) -> Option<FlameRequest<'a>> {
+    fn request_in(_words: &'a [String], taken: &TakenWords<'a>) -> Option<Self> {
         let trace = taken.only_file()?;
-        let cost = cost_in(taken)?;
+        let cost = meaning_or(FlameCost::Allocations, COSTS, taken.value(COST))?;
         Some(FlameRequest { trace, cost })
-    }
-}
-
-/// The cost that the words name: allocations where they name none.
-fn cost_in(words: &TakenWords) -> Option<FlameCost>
-    ensures { result ≡ cost_or (value_in (rows_in words.now) (codes "flamegraph-cost-type")) }
-{
-    let Some(name) = words.value(COST) else {
-        return Some(FlameCost::Allocations);
-    };
-    cost_named(name)
-}
-
-fn cost_named(name: &str) -> Option<FlameCost>
-    ensures { result ≡ cost_named name.now }
-{
-    match name {
-        "allocations" => Some(FlameCost::Allocations),
-        "temporary" => Some(FlameCost::Temporary),
-        "leaked" => Some(FlameCost::Leaked),
-        "peak" => Some(FlameCost::Peak),
-        _ => None,
     }
 }

@@ -27,7 +27,7 @@
 //! | `massif_command.rt`, `dhat_command.rt` | those that write a profile of a trace |
 //! | `page_command.rt`, `view_command.rt`, `convert_command.rt` | `ms_print`, `dhat_view` and `convert` |
 //! | `gen_command.rt` | `gen` |
-//! | `number_words.rt`, `key_words.rt` | values of options: numbers and percentages; keys of figures |
+//! | `number_words.rt`, `name_words.rt`, `key_words.rt` | values of options: numbers and percentages; names; keys of figures |
 #![tactic(auto)]
 
 mod command;
@@ -39,6 +39,7 @@ mod interpret_command;
 mod key_words;
 mod list;
 mod massif_command;
+mod name_words;
 mod number_words;
 mod page_command;
 mod print_command;

@@ -4,7 +4,7 @@ ghost use Rattle.command_frame.specs.Texts.{texts_of};
 ghost use Rattle.commands.specs.HasEnded.{EndsHelp, EndsWords, GivesUsage};
 ghost use Rattle.commands.specs.Texts.{heapsuite_texts as texts_of_heapsuite};
 
-use crate::command::{read, refuse, run_read};
+use crate::command::{Ran, read, refuse, run_read};
 use crate::convert_command::ConvertRequest;
 use crate::dhat_command::DhatRequest;
 use crate::flame_command::FlameRequest;
@@ -15,7 +15,7 @@ use crate::page_command::PageRequest;
 use crate::print_command::PrintRequest;
 use crate::summary_command::SummaryRequest;
 use crate::view_command::DhatViewRequest;
-use command_frame::{Halt, ProgramTexts, RunContext, deliver};
+use command_frame::{ProgramTexts, RunContext, deliver};
 use command_words::WordsFault;
 use hp_num::put_bytes;
 use hp_outside::{Sink, Store};
@@ -112,7 +112,7 @@ fn help<O: Sink, E: Sink>(context: &RunContext, words: &[String], out: &mut O, e
 }
 
 /// How the program is called.
-fn usage(context: &RunContext) -> Result<Vec<u8>, Halt>
+fn usage(context: &RunContext) -> Ran
     ensures { GivesUsage context.now result }
 {
     let mut usage = Vec::new(context.alloc);

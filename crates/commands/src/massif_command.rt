@@ -4,15 +4,17 @@ ghost use Rattle.std.specs.Int.{is_power_of_two};
 ghost use Rattle.command_words.specs.WordsTaken.{rows_in, value_in};
 ghost use Rattle.massif_sample.specs.AreWithin.{AreWithin};
 ghost use Rattle.massif_sample.specs.NameList.{names_in};
-ghost use Rattle.commands.specs.MassifCommand.{alignment_or, names_or, options_given, unit_named, unit_or};
+ghost use Rattle.commands.specs.MassifCommand.{alignment_or, massif, names_or, options_given, unit_or};
 
-use crate::command::{Command, Request};
+use crate::command::{Command, Ran, Request, take_with_file};
+use crate::name_words::meaning_or;
 use crate::number_words::{number_or, percent_or};
-use command_frame::{Halt, RunContext};
-use command_words::{TakenWords, WordTable};
+use command_frame::RunContext;
+use command_words::{TakenWords, WordsFault};
 use hp_outside::{Sink, Store};
 use massif_file::TimeUnit;
 use massif_sample::{MassifOptions, SampleSettings};
+use std::alloc::Global;
 use trace_profiles::run_massif;
 
 /// The option that names the functions that stacks are shown without.
@@ -21,23 +23,26 @@ const ALLOC_FNS: &str = "alloc-fns";
 /// The option that names the functions whose stacks are ignored.
 const IGNORE_FNS: &str = "ignore-fns";
 
-/// Ten options, and one file.
-const WORDS: WordTable<'static> = WordTable {
-    options: &[
-        "threshold",
-        "peak-inaccuracy",
-        "detailed-freq",
-        "max-snapshots",
-        "depth",
-        "heap-admin",
-        "alignment",
-        "time-unit",
-        ALLOC_FNS,
-        IGNORE_FNS,
-    ],
-    flags: &[],
-    files: true,
-};
+/// The options.
+const OPTIONS: &[&str] = &[
+    "threshold",
+    "peak-inaccuracy",
+    "detailed-freq",
+    "max-snapshots",
+    "depth",
+    "heap-admin",
+    "alignment",
+    "time-unit",
+    ALLOC_FNS,
+    IGNORE_FNS,
+];
+
+/// What times may count, by its name. Instructions aren't known of a trace.
+const UNITS: &[(&str, TimeUnit)] = &[
+    ("B", TimeUnit::Bytes),
+    ("ms", TimeUnit::Milliseconds),
+    ("e", TimeUnit::Events),
+];
 
 /// What `massif` is to do.
 #[derive(Clone, Copy)]
@@ -49,39 +54,23 @@ pub struct MassifRequest<'a> {
 }
 
 impl Command for MassifRequest<'_> {
-    ghost use Rattle.commands.specs.MassifCommand.{MassifAsked, massif, massif_asked_by};
-
     type Rest = Vec<u8>;
-
-    ghost Asked = { MassifAsked };
-
-    ghost asked_by = { massif_asked_by };
 
     ghost command = { massif };
 
-    fn run<S: Store, O: Sink>(
-        &self,
-        context: &RunContext,
-        store: &mut S,
-        out: &mut O,
-    ) -> Result<Vec<u8>, Halt> {
+    fn run<S: Store, O: Sink>(&self, context: &RunContext, store: &mut S, out: &mut O) -> Ran {
         run_massif(context, self.trace, &self.settings, store, out)
     }
 }
 
 impl<'a> Request<'a> for MassifRequest<'a> {
-    ghost use Rattle.command_words.specs.TableApp.{table_of};
-    ghost use Rattle.commands.specs.MassifCommand.{massif};
-
     #[tactic(auto, unfolding(crate::specs::MassifCommand::massif_table))]
-    fn table() -> WordTable<'static>
-        ensures { table_of result ≡ massif.table }
-    {
-        WORDS
+    fn take(alloc: Global, words: &'a [String]) -> Result<TakenWords<'a>, WordsFault> {
+        take_with_file(alloc, OPTIONS, words)
     }
 
     #[tactic(auto, unfolding(crate::specs::MassifCommand::massif_given))]
-    fn request_in(_words: &'a [String], taken: &TakenWords<'a>) -> Option<MassifRequest<'a>> {
+    fn request_in(_words: &'a [String], taken: &TakenWords<'a>) -> Option<Self> {
         let trace = taken.only_file()?;
         let options = options_in(taken)?;
         let alloc_fns = list_in(taken, ALLOC_FNS);
@@ -146,21 +135,5 @@ fn unit_or(value: Option<&str>) -> Option<TimeUnit>
     ensures unit { result ≡ unit_or (option_map (λ text. text.now) value.entry) }
     ensures known { IfSome result (λ unit. unit ≢ TimeUnit.Instructions) }
 {
-    match value {
-        Some(name) => unit_named(name),
-        None => Some(TimeUnit::Bytes),
-    }
-}
-
-/// What times count, by its name.
-fn unit_named(name: &str) -> Option<TimeUnit>
-    ensures unit { result ≡ unit_named name.now }
-    ensures known { IfSome result (λ unit. unit ≢ TimeUnit.Instructions) }
-{
-    match name {
-        "B" => Some(TimeUnit::Bytes),
-        "ms" => Some(TimeUnit::Milliseconds),
-        "e" => Some(TimeUnit::Events),
-        _ => None,
-    }
+    meaning_or(TimeUnit::Bytes, UNITS, value)
 }

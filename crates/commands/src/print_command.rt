@@ -1,35 +1,36 @@
 //! `print`: the report on one trace.
-ghost use Rattle.std.specs.Prelude.{◌≡◌, ◌≤◌, Bool, codes, option_map};
+ghost use Rattle.std.specs.Prelude.{◌≡◌, ◌≤◌, codes, option_map};
 ghost use Rattle.command_words.specs.WordsTaken.{rows_in, value_in};
-ghost use Rattle.commands.specs.PrintCommand.{limit_or, options_given, reads_input_twice, switch_named, switch_or};
+ghost use Rattle.commands.specs.PrintCommand.{limit_or, options_given, print, reads_input_twice, switch_or};
 
-use crate::command::{Command, Request};
+use crate::command::{Command, Ran, Request, take_with_file};
+use crate::name_words::meaning_or;
 use crate::number_words::number_or;
-use command_frame::{Halt, RunContext};
-use command_words::{TakenWords, WordTable};
+use command_frame::RunContext;
+use command_words::{TakenWords, WordsFault};
 use hp_outside::{Sink, Store};
 use ht_print::PrintOptions;
+use std::alloc::Global;
 use trace_reports::run_print;
 
 /// The option that names a suppressions file.
 const SUPPRESSIONS: &str = "suppressions";
 
-/// Nine options, and one file.
-const WORDS: WordTable<'static> = WordTable {
-    options: &[
-        "print-allocators",
-        "print-peaks",
-        "print-leaks",
-        "print-temporary",
-        "merge-backtraces",
-        "histogram",
-        "peak-limit",
-        "sub-peak-limit",
-        SUPPRESSIONS,
-    ],
-    flags: &[],
-    files: true,
-};
+/// The options.
+const OPTIONS: &[&str] = &[
+    "print-allocators",
+    "print-peaks",
+    "print-leaks",
+    "print-temporary",
+    "merge-backtraces",
+    "histogram",
+    "peak-limit",
+    "sub-peak-limit",
+    SUPPRESSIONS,
+];
+
+/// What the value of a switch says.
+const SWITCHES: &[(&str, bool)] = &[("1", true), ("0", false)];
 
 /// How many entries may be shown.
 const MOST_ENTRIES: u64 = 1_000_000;
@@ -46,22 +47,11 @@ pub struct PrintRequest<'a> {
 }
 
 impl Command for PrintRequest<'_> {
-    ghost use Rattle.commands.specs.PrintCommand.{PrintAsked, print, print_asked_by};
-
     type Rest = Vec<u8>;
-
-    ghost Asked = { PrintAsked };
-
-    ghost asked_by = { print_asked_by };
 
     ghost command = { print };
 
-    fn run<S: Store, O: Sink>(
-        &self,
-        context: &RunContext,
-        store: &mut S,
-        out: &mut O,
-    ) -> Result<Vec<u8>, Halt> {
+    fn run<S: Store, O: Sink>(&self, context: &RunContext, store: &mut S, out: &mut O) -> Ran {
         run_print(
             context,
             self.suppressions,
@@ -74,16 +64,11 @@ impl Command for PrintRequest<'_> {
 }
 
 impl<'a> Request<'a> for PrintRequest<'a> {
-    ghost use Rattle.command_words.specs.TableApp.{table_of};
-    ghost use Rattle.commands.specs.PrintCommand.{print};
-
-    fn table() -> WordTable<'static>
-        ensures { table_of result ≡ print.table }
-    {
-        WORDS
+    fn take(alloc: Global, words: &'a [String]) -> Result<TakenWords<'a>, WordsFault> {
+        take_with_file(alloc, OPTIONS, words)
     }
 
-    fn request_in(_words: &'a [String], taken: &TakenWords<'a>) -> Option<PrintRequest<'a>> {
+    fn request_in(_words: &'a [String], taken: &TakenWords<'a>) -> Option<Self> {
         let trace = taken.only_file()?;
         let options = options_in(taken)?;
         let suppressions = taken.value(SUPPRESSIONS);
@@ -129,14 +114,7 @@ fn options_in(words: &TakenWords) -> Option<PrintOptions>
 fn switch_in(words: &TakenWords, option: &str, absent: bool) -> Option<bool>
     ensures { result ≡ switch_or absent (value_in (rows_in words.now) option.now) }
 {
-    let Some(value) = words.value(option) else {
-        return Some(absent);
-    };
-    match value {
-        "1" => Some(true),
-        "0" => Some(false),
-        _ => None,
-    }
+    meaning_or(absent, SWITCHES, words.value(option))
 }
 
 /// How many entries are shown: `absent` where the words don't say so.

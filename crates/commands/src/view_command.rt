@@ -1,28 +1,15 @@
 //! `dhat_view`: the view of one DHAT profile.
-use crate::command::{Command, Request};
+ghost use Rattle.commands.specs.ViewCommand.{view};
+
+use crate::command::{Command, Ran, Request, take_with_file};
 use crate::key_words::key_or;
 use crate::number_words::{number_or, percent_or};
-use command_frame::{Halt, RunContext};
-use command_words::{TakenWords, WordTable};
+use command_frame::RunContext;
+use command_words::{TakenWords, WordsFault};
 use dhat_view::ViewOptions;
 use hp_outside::{Sink, Store};
 use profile_reports::{ViewReport, run_dhat_file};
-
-/// The option that names the figure.
-const SORT: &str = "sort";
-
-/// The option that gives the least share.
-const THRESHOLD: &str = "threshold";
-
-/// The option that gives the number of frames.
-const DEPTH: &str = "depth";
-
-/// Three options, and one file.
-const WORDS: WordTable<'static> = WordTable {
-    options: &[SORT, THRESHOLD, DEPTH],
-    flags: &[],
-    files: true,
-};
+use std::alloc::Global;
 
 /// What `dhat_view` is to do.
 #[derive(Clone, Copy)]
@@ -34,22 +21,11 @@ pub struct DhatViewRequest<'a> {
 }
 
 impl Command for DhatViewRequest<'_> {
-    ghost use Rattle.commands.specs.ViewCommand.{ViewAsked, view, view_asked_by};
-
     type Rest = Vec<u8>;
-
-    ghost Asked = { ViewAsked };
-
-    ghost asked_by = { view_asked_by };
 
     ghost command = { view };
 
-    fn run<S: Store, O: Sink>(
-        &self,
-        context: &RunContext,
-        store: &mut S,
-        _out: &mut O,
-    ) -> Result<Vec<u8>, Halt> {
+    fn run<S: Store, O: Sink>(&self, context: &RunContext, store: &mut S, _out: &mut O) -> Ran {
         let report = ViewReport {
             options: self.options,
         };
@@ -58,21 +34,15 @@ impl Command for DhatViewRequest<'_> {
 }
 
 impl<'a> Request<'a> for DhatViewRequest<'a> {
-    ghost use Rattle.std.specs.Prelude.{◌≡◌};
-    ghost use Rattle.command_words.specs.TableApp.{table_of};
-    ghost use Rattle.commands.specs.ViewCommand.{view};
-
-    fn table() -> WordTable<'static>
-        ensures { table_of result ≡ view.table }
-    {
-        WORDS
+    fn take(alloc: Global, words: &'a [String]) -> Result<TakenWords<'a>, WordsFault> {
+        take_with_file(alloc, &["sort", "threshold", "depth"], words)
     }
 
-    fn request_in(_words: &'a [String], taken: &TakenWords<'a>) -> Option<DhatViewRequest<'a>> {
+    fn request_in(_words: &'a [String], taken: &TakenWords<'a>) -> Option<Self> {
         let profile = taken.only_file()?;
-        let key = key_or(taken.value(SORT))?;
-        let threshold = percent_or(taken.value(THRESHOLD))?;
-        let depth = number_or(30, 1, 200, taken.value(DEPTH))?;
+        let key = key_or(taken.value("sort"))?;
+        let threshold = percent_or(taken.value("threshold"))?;
+        let depth = number_or(30, 1, 200, taken.value("depth"))?;
         let options = ViewOptions {
             key,
             threshold,

@@ -1,4 +1,4 @@
-use Rattle.std.proofs.Common.{[], List, String, arith, map, refl, string_bytes, subst, sym}
+use Rattle.std.proofs.Common.{[], arith, map, refl, string_bytes, subst, sym}
 use Rattle.command_frame.specs.Plan.{Ends}
 use Rattle.command_frame.specs.Report.{Writes}
 use Rattle.command_frame.specs.RunsTo.{RunsTo, taken}
