@@ -1,12 +1,13 @@
 -- A kind, numbers behind blanks and a line feed are a line of a raw trace.
 use Rattle.std.proofs.Common.{◌≡◌, ◌≢◌, ℕ, suc, ◌+◌, ◌*◌, ◌^◌, ◌<◌, ◌≤◌, List, [], ◌∷◌, ◌++◌, length, take, drop}
-use Rattle.std.proofs.Common.{get_or, map, All, Option, Some, None, IfSome, Ok, IsTrue, refl, sym, ap, ◌∙◌}
+use Rattle.std.proofs.Common.{get_or, map, All, Option, Some, None, IfSome, Ok, IsTrue, refl, sym, subst, ap, ◌∙◌}
 use Rattle.std.proofs.Common.{append_assoc, length-append, length-drop, length-take, arith}
 use Rattle.std.proofs.lemmas.List.{drop-drop, take-append-drop, length-take-le}
 use Rattle.std.proofs.lemmas.List.Elements.{All-append, All-cons, All-nil}
-use Rattle.std.proofs.lemmas.Int.Digits.{digits_value-lt}
+use Rattle.std.proofs.lemmas.Int.Digits.{digits_more, digits_value-lt, digits_value_more}
 use Rattle.std.proofs.Math.Nat.{pow-le-pow_right}
 use Rattle.std.proofs.Math.Seq.{drop-cons}
+use Rattle.std.specs.Char.{digit_value}
 use Rattle.std.specs.Str.Parse.{AllDigits, digits_value}
 use Rattle.hp_num.specs.ParsedHex.{parsed_hex}
 use Rattle.hp_num.proofs.Laws.{parsed_digits}
@@ -29,6 +30,21 @@ room-for-digit text i few all =
     let upto : 16 ^ length (take i text) ≤ 16 ^ 15 =
     pow-le-pow_right {n = 16} (omega arith) {i = length (take i text)} {j = 15} (omega (arith, length-take i text)) in
     omega (arith, digits_value-lt 16 (take i text) all, upto)
+
+-- one more digit, and the number with it
+pub digit-more :
+    (bytes : List ℕ) (digits number byte digit : ℕ)
+    → digits < length bytes
+    → AllDigits 16 (take digits bytes)
+    → number ≡ digits_value 16 (take digits bytes)
+    → byte ≡ get_or bytes digits 0
+    → (digit_value byte < 16) × (digit ≡ digit_value byte)
+    → AllDigits 16 (take (digits + 1) bytes) × (number * 16 + digit ≡ digits_value 16 (take (digits + 1) bytes))
+digit-more bytes digits number byte digit within all value at told =
+    let is : digit ≡ digit_value (get_or bytes digits 0) = told.1 ∙ ap digit_value at in (
+      digits_more 16 bytes digits within all (subst (λ b. digit_value b < 16) at told.0),
+      omega (arith, digits_value_more 16 bytes digits within),
+    )
 
 -- digits behind a blank are a field
 pub field-at : (text : List ℕ) (start count number : ℕ) → start < length text → get_or text start 0 ≡ 32

@@ -1,10 +1,12 @@
-use Rattle.std.proofs.Common.{◌≡◌, ℕ, [], Option, None, Some, Result, Ok, Err, refl, sym, ◌∙◌}
+use Rattle.std.proofs.Common.{◌≡◌, ℕ, [], Option, None, Some, Result, Ok, Err, refl, sym, ap, ◌∙◌}
 use Rattle.hp_num.specs.ParsedHex.{parsed_hex}
 use Rattle.ht_lines.specs.Fields.{fields}
 use Rattle.ht_lines.specs.Reading.{with_number}
+use Rattle.ht_lines.specs.Reading as reading
 use Rattle.ht_lines.specs.declared.item.Malformed.{Malformed}
 use Rattle.ht_lines.proofs.FieldLemmas.{where_none}
 use Rattle.ht_lines.proofs.numbers.three_numbers.Goals as goal
+use Rattle.ht_lines.proofs.numbers.three_numbers.Goals.{After-both_numbers}
 
 -- a number in front of two, or their fault
 abbrev in_front : ℕ → Result (ℕ × ℕ) Malformed → Result (ℕ × ℕ × ℕ) Malformed
@@ -35,13 +37,14 @@ returns-in_default-parse_hex c =
     let none : parsed_hex c.in-Some.first.now ≡ None = sym c.parse_hex.ensures.parsed ∙ c.in_default-parse_hex.is in
     rw (c.in-Some.ensures.some, c.in-Some-next_field.ensures.some, c.in-Some-next_field-2.ensures.some, end, none) refl
 
-pub returns-in-Ok : goal.returns-in-Ok
-returns-in-Ok c =
+-- the three numbers, or their fault, by those of the last two
+read : (c : After-both_numbers)
+    → reading.three_numbers (fields c.args.rest.now) ≡ in_front c.in-Some-parse_hex.first c.both_numbers.result
+read c =
     let end : fields c.in-Some-next_field-2.after.now ≡ [] =
     where_none c.next_field-4.result _ c.if-is_some.ensures c.next_field-4.ensures.none in
     let first : parsed_hex c.in-Some.first.now ≡ Some c.in-Some-parse_hex.first =
     sym c.parse_hex.ensures.parsed ∙ c.in-Some-parse_hex.is in
-    let both = sym c.both_numbers.ensures ∙ c.in-Ok.is in
     rw (
       c.in-Some.ensures.some,
       c.in-Some-next_field.ensures.some,
@@ -50,23 +53,15 @@ returns-in-Ok c =
       first,
       behind c.in-Some-parse_hex.first (parsed_hex c.in-Some-next_field.second.now)
           (parsed_hex c.in-Some-next_field-2.third.now),
-      both,
+      sym c.both_numbers.ensures,
     ) refl
+
+pub returns-in-Ok : goal.returns-in-Ok
+returns-in-Ok c =
+    sym
+    (read (goal.at.returns-in-Ok c).After-both_numbers ∙ ap (in_front c.in-Some-parse_hex.first) c.in-Ok.is)
 
 pub returns-in-Err : goal.returns-in-Err
 returns-in-Err c =
-    let end : fields c.in-Some-next_field-2.after.now ≡ [] =
-    where_none c.next_field-4.result _ c.if-is_some.ensures c.next_field-4.ensures.none in
-    let first : parsed_hex c.in-Some.first.now ≡ Some c.in-Some-parse_hex.first =
-    sym c.parse_hex.ensures.parsed ∙ c.in-Some-parse_hex.is in
-    let both = sym c.both_numbers.ensures ∙ c.in-Err.is in
-    rw (
-      c.in-Some.ensures.some,
-      c.in-Some-next_field.ensures.some,
-      c.in-Some-next_field-2.ensures.some,
-      end,
-      first,
-      behind c.in-Some-parse_hex.first (parsed_hex c.in-Some-next_field.second.now)
-          (parsed_hex c.in-Some-next_field-2.third.now),
-      both,
-    ) refl
+    sym
+    (read (goal.at.returns-in-Err c).After-both_numbers ∙ ap (in_front c.in-Some-parse_hex.first) c.in-Err.is)
