@@ -30,22 +30,18 @@ use Rattle.ht_trace.proofs.LineLemmas.{events-push, no_fault_in, stands-push}
 takes-event : (tables : TableState) (kind : EventKind) (info : ℕ) (held : HeldInfo)
     → slice_get tables.infos info ≡ Some held
     → Takes tables (event_content kind info) (step.Event (event_of_info kind info held)) tables
-takes-event tables Allocation info held at =
-    let within = slice_get_within tables.infos info held at in
-    record {
-      no_fault = grind (arith, nat_tests, within);
-      step_is =
-          sym (ap (λ (o : Option HeldInfo). event_step (option_map (λ found. Alloc info found.stack found.size) o)) at);
-      added = refl;
-    }
-takes-event tables FreeKind info held at =
-    let within = slice_get_within tables.infos info held at in
-    record {
-      no_fault = grind (arith, nat_tests, within);
-      step_is =
-          sym (ap (λ (o : Option HeldInfo). event_step (option_map (λ found. Free info found.stack found.size) o)) at);
-      added = refl;
-    }
+takes-event tables Allocation info held at = record {
+  no_fault = grind (arith, nat_tests, slice_get_within tables.infos info held at);
+  step_is =
+      sym (ap (λ (o : Option HeldInfo). event_step (option_map (λ found. Alloc info found.stack found.size) o)) at);
+  added = refl;
+}
+takes-event tables FreeKind info held at = record {
+  no_fault = grind (arith, nat_tests, slice_get_within tables.infos info held at);
+  step_is =
+      sym (ap (λ (o : Option HeldInfo). event_step (option_map (λ found. Free info found.stack found.size) o)) at);
+  added = refl;
+}
 
 -- so a line that says it is taken, whatever the lines before it
 passes-line : (tables : TableState) (line : List ℕ) (said : Content) (event : Event) → is_some tables.version ≡ true

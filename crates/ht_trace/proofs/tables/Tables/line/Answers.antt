@@ -41,16 +41,12 @@ read_as c =
 pub returns-clause-stands : goal.returns-clause-stands
 returns-clause-stands c =
     MatchResult-weaker c.take.result c.take.ensures.takes
-    (λ step takes. stands-push c.args.self.now c.take.new.self (content c.in_ok-item.item) step c.args.line.now
-    (may_stand c) (read_as c) takes)
-    (λ error all. all)
+    (λ step takes. stands-push _ _ _ step c.args.line.now (may_stand c) (read_as c) takes) (λ error all. all)
 
 pub returns-clause-events : goal.returns-clause-events
 returns-clause-events c =
     MatchResult-weaker c.take.result c.take.ensures.takes
-    (λ step takes. events-push c.args.self.now c.take.new.self (content c.in_ok-item.item) step c.args.line.now
-    (may_stand c) (read_as c) takes)
-    (λ error all. all)
+    (λ step takes. events-push _ _ _ step c.args.line.now (may_stand c) (read_as c) takes) (λ error all. all)
 
 pub returns-clause-fault : goal.returns-clause-fault
 returns-clause-fault c =
