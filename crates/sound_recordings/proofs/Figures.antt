@@ -1,5 +1,5 @@
 -- The figures of the events that a recorded trace brings are those of its actions.
-use Rattle.std.proofs.Common.{◌≡◌, ℕ, zero, suc, ◌+◌, ◌<◌, Bool, true, false, List, [], ◌∷◌, ◌++◌, length, map, Option}
+use Rattle.std.proofs.Common.{◌≡◌, ℕ, zero, suc, ◌+◌, ◌<◌, Bool, true, false, cond, List, [], ◌∷◌, ◌++◌, length, map, Option}
 use Rattle.std.proofs.Common.{None, Some, refl, sym, ap, ap₂, ◌∙◌, arith, length-append, true≢false}
 use Rattle.std.specs.Prelude.{max, is_some, sum_by, unwrap_or, if◌then◌else◌}
 use Rattle.std.specs.List.{range_with_len}
@@ -69,7 +69,7 @@ peak-push events e acts action peak now =
     ∙ ap₂ (λ (x y : ℕ). max x y) now peak
 
 -- sums with an event more
-one-more : (f : Event → ℕ) (events : List Event) (e : Event) → sum_by f (events ++ e ∷ []) ≡ sum_by f events + f e
+pub one-more : (f : Event → ℕ) (events : List Event) (e : Event) → sum_by f (events ++ e ∷ []) ≡ sum_by f events + f e
 one-more f events e = let h = sum_by-append f events (e ∷ []) in omega (arith, h)
 
 counted-push : (events : List Event) (e : Event) → is_counted e ≡ true → counted events ≡ events
@@ -94,65 +94,61 @@ events-none =
       peak_is = refl;
     }
 
+-- what is live, but for one block that is live or isn't
+parts : (acts : List Action) (thread id : ℕ) (found : Option ℕ) → size_in (held_after acts) thread id ≡ found
+    → (own.live_bytes every acts ≡ weigh (bytes_held every) (without thread id (held_after acts)) + unwrap_or found 0)
+    × (own.live_count every acts
+    ≡ weigh (one_held every) (without thread id (held_after acts)) + (if is_some found then 1 else 0))
+parts acts thread id found is = (
+  bytes-split thread id acts
+      ∙ ap (λ (o : Option ℕ). weigh (bytes_held every) (without thread id (held_after acts)) + unwrap_or o 0) is,
+  count-split thread id acts
+      ∙ ap (λ (o : Option ℕ). weigh (one_held every) (without thread id (held_after acts))
+      + (if is_some o then 1 else 0)) is,
+)
+
+-- an event more, which does what an action does
+events-more : (events : List Event) (acts : List Action) (e : Event) (act : Action)
+    → AreEventsOf events acts → is_counted e ≡ true
+    → own.calls every (act ∷ acts) ≡ own.calls every acts + cond (is_alloc e) 1 0
+    → own.allocated every (act ∷ acts) ≡ own.allocated every acts + alloc_size e
+    → own.live_bytes every (act ∷ acts) + free_size e ≡ own.live_bytes every acts + alloc_size e
+    → own.live_count every (act ∷ acts) + cond (is_free e) 1 0 ≡ own.live_count every acts + cond (is_alloc e) 1 0
+    → AreEventsOf (events ++ e ∷ []) (act ∷ acts)
+events-more events acts e act are is more_calls more_allocated more_live more_few =
+    let one : cond {A = ℕ} (is_counted e) 1 0 ≡ 1 = ap (λ (b : Bool). cond {A = ℕ} b 1 0) is in
+    let count = one-more (λ (e : Event). cond {A = ℕ} (is_counted e) 1 0) events e in
+    let called = one-more (λ (e : Event). cond {A = ℕ} (is_alloc e) 1 0) events e in
+    let freed = one-more (λ (e : Event). cond {A = ℕ} (is_free e) 1 0) events e in
+    let sizes = one-more alloc_size events e in
+    let gone = one-more free_size events e in
+    let now : live_bytes (events ++ e ∷ []) ≡ own.live_bytes every (act ∷ acts) =
+    omega (arith, sizes, gone, more_live, are.bytes) in
+    record {
+      counted_are = counted-push events e is are.counted_are;
+      count = omega (arith, count, one, are.count);
+      calls_are = omega (arith, called, more_calls, are.calls_are);
+      allocated_are = omega (arith, sizes, more_allocated, are.allocated_are);
+      bytes = omega (arith, sizes, gone, more_live, are.bytes);
+      blocks = omega (arith, called, freed, more_few, are.blocks);
+      peak_is = peak-push events e acts act are.peak_is now;
+    }
+
 -- an allocation more
 pub events-allocated : (events : List Event) (acts : List Action) (info node thread id size : ℕ) (ips : List ℕ)
     → AreEventsOf events acts → size_in (held_after acts) thread id ≡ None
     → AreEventsOf (events ++ Alloc info node size ∷ [])
     (record { thread = thread; event = allocation id size ips } ∷ acts)
 events-allocated events acts info node thread id size ips are none =
-    let e : Event = Alloc info node size in
-    let live =
-    bytes-split thread id acts
-    ∙ ap (λ (o : Option ℕ). weigh (bytes_held every) (without thread id (held_after acts)) + unwrap_or o 0) none in
-    let few =
-    count-split thread id acts
-    ∙ ap (λ (o : Option ℕ). weigh (one_held every) (without thread id (held_after acts))
-    + (if is_some o then 1 else 0)) none in
-    let count = sum_by-append (λ (e : Event). if is_counted e then 1 else 0) events (e ∷ []) in
-    let called = sum_by-append (λ (e : Event). if is_alloc e then 1 else 0) events (e ∷ []) in
-    let freed = sum_by-append (λ (e : Event). if is_free e then 1 else 0) events (e ∷ []) in
-    let sizes = one-more alloc_size events e in
-    let gone = one-more free_size events e in
-    let now : live_bytes (events ++ e ∷ [])
-    ≡ own.live_bytes every (record { thread = thread; event = allocation id size ips } ∷ acts) =
-    omega (arith, sizes, gone, live, are.bytes) in
-    record {
-      counted_are = counted-push events e refl are.counted_are;
-      count = omega (arith, count, are.count);
-      calls_are = omega (arith, called, are.calls_are);
-      allocated_are = omega (arith, sizes, are.allocated_are);
-      bytes = omega (arith, sizes, gone, live, are.bytes);
-      blocks = omega (arith, called, freed, few, are.blocks);
-      peak_is = peak-push events e acts (record { thread = thread; event = allocation id size ips }) are.peak_is now;
-    }
+    let was = parts acts thread id None none in
+    events-more events acts (Alloc info node size) (record { thread = thread; event = allocation id size ips }) are refl
+    (omega arith) (omega arith) (omega (arith, was.0)) (omega (arith, was.1))
 
 -- a free of a live block more
 pub events-freed : (events : List Event) (acts : List Action) (info node thread id size : ℕ) (rejoined : Bool)
     → AreEventsOf events acts → size_in (held_after acts) thread id ≡ Some size
     → AreEventsOf (events ++ Free info node size ∷ []) (record { thread = thread; event = free id rejoined } ∷ acts)
 events-freed events acts info node thread id size rejoined are some =
-    let e : Event = Free info node size in
-    let live =
-    bytes-split thread id acts
-    ∙ ap (λ (o : Option ℕ). weigh (bytes_held every) (without thread id (held_after acts)) + unwrap_or o 0) some in
-    let few =
-    count-split thread id acts
-    ∙ ap (λ (o : Option ℕ). weigh (one_held every) (without thread id (held_after acts))
-    + (if is_some o then 1 else 0)) some in
-    let count = sum_by-append (λ (e : Event). if is_counted e then 1 else 0) events (e ∷ []) in
-    let called = sum_by-append (λ (e : Event). if is_alloc e then 1 else 0) events (e ∷ []) in
-    let freed = sum_by-append (λ (e : Event). if is_free e then 1 else 0) events (e ∷ []) in
-    let sizes = one-more alloc_size events e in
-    let gone = one-more free_size events e in
-    let now : live_bytes (events ++ e ∷ [])
-    ≡ own.live_bytes every (record { thread = thread; event = free id rejoined } ∷ acts) =
-    omega (arith, sizes, gone, live, are.bytes) in
-    record {
-      counted_are = counted-push events e refl are.counted_are;
-      count = omega (arith, count, are.count);
-      calls_are = omega (arith, called, are.calls_are);
-      allocated_are = omega (arith, sizes, are.allocated_are);
-      bytes = omega (arith, sizes, gone, live, are.bytes);
-      blocks = omega (arith, called, freed, few, are.blocks);
-      peak_is = peak-push events e acts (record { thread = thread; event = free id rejoined }) are.peak_is now;
-    }
+    let was = parts acts thread id (Some size) some in
+    events-more events acts (Free info node size) (record { thread = thread; event = free id rejoined }) are refl
+    (omega arith) (omega arith) (omega (arith, was.0)) (omega (arith, was.1))

@@ -39,7 +39,7 @@ use Rattle.record_book.specs.RecordedTrace.{last_thread}
 use Rattle.sound_recordings.proofs.Names.{AreNamed, named, suffix-known}
 use Rattle.sound_recordings.proofs.Played.{ArePlayed, Plays, number-few, stacks-few, suffixes-few}
 use Rattle.sound_recordings.proofs.Readable.{IsReadable, all-append, contents-of, version-first}
-use Rattle.sound_recordings.proofs.Said.{before_event, event_said, node_said, nodes_said, switch_said, thread_said}
+use Rattle.sound_recordings.proofs.Said.{before_event, event_said, node_said, nodes_said, switch-all, switch_said}
 use Rattle.sound_recordings.proofs.Said.{trace_said}
 
 -- as many nodes as stacks, none of which is deeper than it is long: that of a stack's number is the stack
@@ -136,12 +136,7 @@ modules-harmless [] all = tt
 modules-harmless (said ∷ more) all = (module-harmless said all.0.about, modules-harmless more all.1)
 
 switch-harmless : (last : Option ℕ) (thread : ℕ) → AllByRecursion IsHarmless (switch_said last thread)
-switch-harmless None thread = (comment-harmless _, tt)
-switch-harmless (Some last) thread = by (last == thread)
-  where
-    by : (b : Bool) → AllByRecursion IsHarmless (cond b [] (thread_said thread ∷ []))
-    by true = tt
-    by false = (comment-harmless _, tt)
+switch-harmless last thread = switch-all IsHarmless last thread (comment-harmless _)
 
 -- lines of file version 2 without a fault, with these stacks and so many infos at most
 pub record AreSound (said : List Content) (known : List (List ℕ)) (most : ℕ) : Type 0 where

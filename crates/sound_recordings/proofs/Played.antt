@@ -27,8 +27,8 @@ use Rattle.record_book.specs.TallyState.{size_in}
 use Rattle.record_book.proofs.Laws.{address-within, both-text, digits-text, end-allocated, end-released, literal-text}
 use Rattle.record_book.proofs.Laws.{next-within, only-with}
 use Rattle.sound_recordings.proofs.Readable.{IsReadable, all-append}
-use Rattle.sound_recordings.proofs.Said.{before_event, event_said, node_said, nodes_said, summary_said, switch_said}
-use Rattle.sound_recordings.proofs.Said.{thread_said, trace_said}
+use Rattle.sound_recordings.proofs.Said.{before_event, event_said, node_said, nodes_said, summary_said, switch-all}
+use Rattle.sound_recordings.proofs.Said.{switch_said, thread_said, trace_said}
 
 -- an event after actions that are listed from the last to the first: the block of an allocation
 -- isn't live, and it is within its bounds; that of a free is live
@@ -139,12 +139,7 @@ thread-readable thread = record {
 }
 
 switch-readable : (last : Option ℕ) (thread : ℕ) → AllByRecursion IsReadable (switch_said last thread)
-switch-readable None thread = (thread-readable thread, tt)
-switch-readable (Some last) thread = by (last == thread)
-  where
-    by : (b : Bool) → AllByRecursion IsReadable (cond b [] (thread_said thread ∷ []))
-    by true = tt
-    by false = (thread-readable thread, tt)
+switch-readable last thread = switch-all IsReadable last thread (thread-readable thread)
 
 node-readable : (known : List (List ℕ)) (ip : ℕ) (outer : List ℕ) → ip < 2 ^ 64 → length known < 2 ^ 64
     → AllByRecursion IsReadable (node_said known ip outer)

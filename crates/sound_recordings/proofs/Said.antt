@@ -1,6 +1,7 @@
 -- What the lines of a recorded trace say, and that its bytes are these lines.
 use Rattle.std.proofs.Common.{◌≡◌, ℕ, ◌==◌, Bool, true, false, cond, List, [], ◌∷◌, ◌++◌, map, Option, Some, None, refl}
 use Rattle.std.proofs.Common.{sym, ap, ap₂, ◌∙◌, append_assoc, append-nil}
+use Rattle.std.specs.List.{AllByRecursion}
 use Rattle.std.specs.Prelude.{codes, decimal, if◌then◌else◌}
 use Rattle.hp_outside.specs.WholeLines.{text_of_lines}
 use Rattle.ht_lines.specs.Content.{Content, command_line, comment_line, node_line, raw_allocation_line, raw_free_line}
@@ -24,6 +25,16 @@ thread_said thread = comment_line (codes " thread " ++ decimal thread)
 abbrev pub switch_said : Option ℕ → ℕ → List Content
 switch_said None thread = thread_said thread ∷ []
 switch_said (Some last) thread = if last == thread then [] else thread_said thread ∷ []
+
+-- what holds of the line that names a thread holds of a switch
+pub switch-all : (P : Content → Type 0) (last : Option ℕ) (thread : ℕ) → P (thread_said thread)
+    → AllByRecursion P (switch_said last thread)
+switch-all P None thread here = (here, tt)
+switch-all P (Some last) thread here = by (last == thread)
+  where
+    by : (b : Bool) → AllByRecursion P (cond b [] (thread_said thread ∷ []))
+    by true = tt
+    by false = (here, tt)
 
 -- the lines of new nodes, the outermost first
 abbrev pub node_said : List (List ℕ) → ℕ → List ℕ → List Content

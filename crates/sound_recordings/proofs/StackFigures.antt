@@ -1,8 +1,6 @@
 -- The figures at any stacks of the events that a recorded trace brings are those of its actions.
 use Rattle.std.proofs.Common.{◌≡◌, ℕ, ◌+◌, Bool, cond, List, [], ◌∷◌, ◌++◌, Option, None, Some, refl, ap, ap₂, ◌∙◌}
 use Rattle.std.proofs.Common.{arith}
-use Rattle.std.specs.Prelude.{sum_by}
-use Rattle.std.proofs.lemmas.List.Sums.{sum_by-append}
 use Rattle.live_ledger.specs.declared.event.Event.{Event}
 use Rattle.live_ledger.specs.declared.event.Event.TheVariants.{Alloc, Free}
 use Rattle.record_scripts.specs.Events.{allocation, free}
@@ -12,6 +10,7 @@ use Rattle.record_book.specs.Figures.{Held, bytes_held, held_after, one_held, we
 use Rattle.record_book.proofs.Laws.{held-split, held_in, weight_of}
 use Rattle.sound_recordings.specs.StackFigures.{allocated_at, bytes_called, bytes_freed, calls_at, freed_at, frees_at}
 use Rattle.sound_recordings.specs.StackFigures.{one_called, one_freed}
+use Rattle.sound_recordings.proofs.Figures.{one-more}
 
 -- what events at some stacks come to, and what actions with their instruction pointers do
 pub record AreAt (at : ℕ → Bool) (counted : List ℕ → Bool) (events : List Event) (acts : List Action) : Type 0 where
@@ -23,8 +22,41 @@ pub record AreAt (at : ℕ → Bool) (counted : List ℕ → Bool) (events : Lis
 pub none-at : (at : ℕ → Bool) (counted : List ℕ → Bool) → AreAt at counted [] []
 none-at at counted = record { calls_are = refl; allocated_are = refl; bytes = refl; blocks = refl }
 
-one-more : (f : Event → ℕ) (events : List Event) (e : Event) → sum_by f (events ++ e ∷ []) ≡ sum_by f events + f e
-one-more f events e = let h = sum_by-append f events (e ∷ []) in omega (arith, h)
+-- what is live at some stacks, but for one block that is live or isn't
+parts : (counted : List ℕ → Bool) (acts : List Action) (thread id : ℕ) (found : Option Held)
+    → held_in (held_after acts) thread id ≡ found
+    → (own.live_bytes counted acts
+    ≡ weigh (bytes_held counted) (without thread id (held_after acts)) + weight_of (bytes_held counted) found)
+    × (own.live_count counted acts
+    ≡ weigh (one_held counted) (without thread id (held_after acts)) + weight_of (one_held counted) found)
+parts counted acts thread id found is = (split (bytes_held counted), split (one_held counted))
+  where
+    split : (weight : Held → ℕ) → weigh weight (held_after acts)
+        ≡ weigh weight (without thread id (held_after acts)) + weight_of weight found
+    split weight =
+        held-split weight thread id acts
+        ∙ ap (λ (o : Option Held). weigh weight (without thread id (held_after acts)) + weight_of weight o) is
+
+-- an event more, which does what an action does
+at-more : (at : ℕ → Bool) (counted : List ℕ → Bool) (events : List Event) (acts : List Action) (e : Event)
+    (act : Action)
+    → AreAt at counted events acts
+    → own.calls counted (act ∷ acts) ≡ own.calls counted acts + one_called at e
+    → own.allocated counted (act ∷ acts) ≡ own.allocated counted acts + bytes_called at e
+    → own.live_bytes counted (act ∷ acts) + bytes_freed at e ≡ own.live_bytes counted acts + bytes_called at e
+    → own.live_count counted (act ∷ acts) + one_freed at e ≡ own.live_count counted acts + one_called at e
+    → AreAt at counted (events ++ e ∷ []) (act ∷ acts)
+at-more at counted events acts e act are more_calls more_allocated more_live more_few =
+    let called = one-more (one_called at) events e in
+    let sizes = one-more (bytes_called at) events e in
+    let freed = one-more (one_freed at) events e in
+    let gone = one-more (bytes_freed at) events e in
+    record {
+      calls_are = omega (arith, called, more_calls, are.calls_are);
+      allocated_are = omega (arith, sizes, more_allocated, are.allocated_are);
+      bytes = omega (arith, sizes, gone, more_live, are.bytes);
+      blocks = omega (arith, called, freed, more_few, are.blocks);
+    }
 
 -- an allocation more
 pub at-allocated : (at : ℕ → Bool) (counted : List ℕ → Bool) (events : List Event) (acts : List Action)
@@ -34,28 +66,12 @@ pub at-allocated : (at : ℕ → Bool) (counted : List ℕ → Bool) (events : L
     → AreAt at counted (events ++ Alloc info node size ∷ [])
     (record { thread = thread; event = allocation id size ips } ∷ acts)
 at-allocated at counted events acts info node thread id size ips are is none =
-    let e : Event = Alloc info node size in
     let one : cond {A = ℕ} (at node) 1 0 ≡ cond {A = ℕ} (counted ips) 1 0 = ap (λ (b : Bool). cond {A = ℕ} b 1 0) is in
     let bytes : cond {A = ℕ} (at node) size 0 ≡ cond {A = ℕ} (counted ips) size 0 =
     ap (λ (b : Bool). cond {A = ℕ} b size 0) is in
-    let live =
-    held-split (bytes_held counted) thread id acts
-    ∙ ap (λ (o : Option Held). weigh (bytes_held counted) (without thread id (held_after acts))
-    + weight_of (bytes_held counted) o) none in
-    let few =
-    held-split (one_held counted) thread id acts
-    ∙ ap (λ (o : Option Held). weigh (one_held counted) (without thread id (held_after acts))
-    + weight_of (one_held counted) o) none in
-    let called = one-more (one_called at) events e in
-    let sizes = one-more (bytes_called at) events e in
-    let freed = one-more (one_freed at) events e in
-    let gone = one-more (bytes_freed at) events e in
-    record {
-      calls_are = omega (arith, called, one, are.calls_are);
-      allocated_are = omega (arith, sizes, bytes, are.allocated_are);
-      bytes = omega (arith, sizes, gone, bytes, live, are.bytes);
-      blocks = omega (arith, called, freed, one, few, are.blocks);
-    }
+    let was = parts counted acts thread id None none in
+    at-more at counted events acts (Alloc info node size) (record { thread = thread; event = allocation id size ips }) are
+    (omega (arith, one)) (omega (arith, bytes)) (omega (arith, was.0, bytes)) (omega (arith, was.1, one))
 
 -- a free of a live block more
 pub at-freed : (at : ℕ → Bool) (counted : List ℕ → Bool) (events : List Event) (acts : List Action)
@@ -65,26 +81,10 @@ pub at-freed : (at : ℕ → Bool) (counted : List ℕ → Bool) (events : List 
     → AreAt at counted (events ++ Free info node size ∷ [])
     (record { thread = thread; event = free id rejoined } ∷ acts)
 at-freed at counted events acts info node thread id size rejoined block are some same is =
-    let e : Event = Free info node size in
     let one : cond {A = ℕ} (at node) 1 0 ≡ cond {A = ℕ} (counted block.ips) 1 0 =
     ap (λ (b : Bool). cond {A = ℕ} b 1 0) is in
     let bytes : cond {A = ℕ} (at node) size 0 ≡ cond {A = ℕ} (counted block.ips) block.size 0 =
     ap₂ (λ (b : Bool) (n : ℕ). cond {A = ℕ} b n 0) is same in
-    let live =
-    held-split (bytes_held counted) thread id acts
-    ∙ ap (λ (o : Option Held). weigh (bytes_held counted) (without thread id (held_after acts))
-    + weight_of (bytes_held counted) o) some in
-    let few =
-    held-split (one_held counted) thread id acts
-    ∙ ap (λ (o : Option Held). weigh (one_held counted) (without thread id (held_after acts))
-    + weight_of (one_held counted) o) some in
-    let called = one-more (one_called at) events e in
-    let sizes = one-more (bytes_called at) events e in
-    let freed = one-more (one_freed at) events e in
-    let gone = one-more (bytes_freed at) events e in
-    record {
-      calls_are = omega (arith, called, are.calls_are);
-      allocated_are = omega (arith, sizes, are.allocated_are);
-      bytes = omega (arith, sizes, gone, bytes, live, are.bytes);
-      blocks = omega (arith, called, freed, one, few, are.blocks);
-    }
+    let was = parts counted acts thread id (Some block) some in
+    at-more at counted events acts (Free info node size) (record { thread = thread; event = free id rejoined }) are
+    (omega arith) (omega arith) (omega (arith, was.0, bytes)) (omega (arith, was.1, one))

@@ -57,7 +57,7 @@ use Rattle.sound_recordings.proofs.NoFault.{version-is}
 use Rattle.sound_recordings.proofs.Played.{ArePlayed, Plays, places-only, summary-readable, trace-readable}
 use Rattle.sound_recordings.proofs.Readable.{IsReadable, all-append, all-raw, all-short, lines-of, no-patterns}
 use Rattle.sound_recordings.proofs.Said.{before_event, event_said, node_said, nodes_said, opening_said, summary-said}
-use Rattle.sound_recordings.proofs.Said.{summary_said, switch_said, text-of, trace-text, trace_said}
+use Rattle.sound_recordings.proofs.Said.{summary_said, switch-all, switch_said, text-of, trace-text, trace_said}
 use Rattle.sound_recordings.proofs.StackFigures.{AreAt, at-allocated, at-freed, none-at}
 use Rattle.sound_recordings.proofs.Turns.{are-played}
 
@@ -141,12 +141,7 @@ reached-event symbols stack_at said before thread (free id rejoined) raw plays n
 
 -- which lines bring no event
 switch-quiet : (last : Option ℕ) (thread : ℕ) → AllByRecursion IsEventless (switch_said last thread)
-switch-quiet None thread = (tt, tt)
-switch-quiet (Some last) thread = by (last == thread)
-  where
-    by : (b : Bool) → AllByRecursion IsEventless (if b then [] else switch_said None thread)
-    by true = tt
-    by false = (tt, tt)
+switch-quiet last thread = switch-all IsEventless last thread tt
 
 nodes-quiet : (known : List (List ℕ)) (ips : List ℕ) → AllByRecursion IsEventless (nodes_said known ips)
 nodes-quiet known [] = tt
