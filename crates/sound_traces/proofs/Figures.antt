@@ -37,70 +37,56 @@ next_moves : (sizes : Sizes) (number : ℕ)
     → moves sizes (number + 1) ≡ moves sizes number ++ next_move sizes number (moves sizes number) ∷ []
 next_moves sizes number = let one : number + 1 ≡ suc number = omega arith in ap (moves sizes) one
 
+-- whether a move allocates from an info, and whether it frees of it
+abbrev allocates : ℕ → Move → Bool
+allocates info move = (move.info == info) && not move.frees
+
+abbrev frees_info : ℕ → Move → Bool
+frees_info info move = (move.info == info) && move.frees
+
+-- a count over events that is one over moves, with one event and one move more
+counts_more : (sizes : Sizes) (number : ℕ) (taken : List Event) (event : Event) (test : Event → Bool)
+    (moved : Move → Bool)
+    → count_by test taken ≡ count_by moved (moves sizes number)
+    → cond {A = ℕ} (moved (next_move sizes number (moves sizes number))) 1 0 ≡ cond {A = ℕ} (test event) 1 0
+    → count_by test (taken ++ event ∷ []) ≡ count_by moved (moves sizes (number + 1))
+counts_more sizes number taken event test moved was same =
+    omega (
+      arith,
+      count_push test taken event,
+      ap (count_by moved) (next_moves sizes number),
+      count_push moved (moves sizes number) (next_move sizes number (moves sizes number)),
+    )
+
+-- an event more, of the next move's kind and info
+figures_more : (sizes : Sizes) (number : ℕ) (taken : List Event) (event : Event)
+    → ((i : ℕ) → cond {A = ℕ} (allocates i (next_move sizes number (moves sizes number))) 1 0
+    ≡ cond {A = ℕ} (is_alloc_of i event) 1 0)
+    → ((i : ℕ) → cond {A = ℕ} (frees_info i (next_move sizes number (moves sizes number))) 1 0
+    ≡ cond {A = ℕ} (is_free_of i event) 1 0)
+    → alloc_size event ≤ 4096 → Figures sizes number taken → Figures sizes (number + 1) (taken ++ event ∷ [])
+figures_more sizes number taken event allocs frees fits figures = record {
+  allocs = λ i. counts_more sizes number taken event (is_alloc_of i) (allocates i) (figures.allocs i) (allocs i);
+  frees = λ i. counts_more sizes number taken event (is_free_of i) (frees_info i) (figures.frees i) (frees i);
+  bytes = omega (arith, sum_by-append alloc_size taken (event ∷ []), figures.bytes);
+}
+
 -- a free more
 pub figures_freed : (sizes : Sizes) (number stack size : ℕ) (taken : List Event)
     → (next_move sizes number (moves sizes number)).frees ≡ true → Figures sizes number taken
     → Figures sizes (number + 1) (taken ++ Free (next_move sizes number (moves sizes number)).info stack size ∷ [])
 figures_freed sizes number stack size taken kind figures =
-    let earlier : List Move = moves sizes number in
-    let move : Move = next_move sizes number earlier in
-    let event : Event = Free move.info stack size in
-    record {
-      allocs = λ i.
-          let other : cond {A = ℕ} ((move.info == i) && not move.frees) 1 0 ≡ 0 =
-          ap (λ b. cond {A = ℕ} ((move.info == i) && not b) 1 0) kind ∙ of_other_kind (move.info == i) in
-          omega (
-            arith,
-            count_push (is_alloc_of i) taken event,
-            figures.allocs i,
-            ap (allocated i) (next_moves sizes number),
-            count_push (λ m. (m.info == i) && not m.frees) earlier move,
-            other,
-          );
-      frees = λ i.
-          let own : cond {A = ℕ} ((move.info == i) && move.frees) 1 0 ≡ cond {A = ℕ} (move.info == i) 1 0 =
-          ap (λ b. cond {A = ℕ} ((move.info == i) && b) 1 0) kind ∙ of_kind (move.info == i) in
-          omega (
-            arith,
-            count_push (is_free_of i) taken event,
-            figures.frees i,
-            ap (freed i) (next_moves sizes number),
-            count_push (λ m. (m.info == i) && m.frees) earlier move,
-            own,
-          );
-      bytes = omega (arith, sum_by-append alloc_size taken (event ∷ []), figures.bytes);
-    }
+    let move : Move = next_move sizes number (moves sizes number) in
+    figures_more sizes number taken (Free move.info stack size)
+    (λ i. ap (λ b. cond {A = ℕ} ((move.info == i) && not b) 1 0) kind ∙ of_other_kind (move.info == i))
+    (λ i. ap (λ b. cond {A = ℕ} ((move.info == i) && b) 1 0) kind ∙ of_kind (move.info == i)) (omega arith) figures
 
 -- an allocation more
 pub figures_allocated : (sizes : Sizes) (number stack size : ℕ) (taken : List Event)
     → (next_move sizes number (moves sizes number)).frees ≡ false → size ≤ 4096 → Figures sizes number taken
     → Figures sizes (number + 1) (taken ++ Alloc (next_move sizes number (moves sizes number)).info stack size ∷ [])
 figures_allocated sizes number stack size taken kind fits figures =
-    let earlier : List Move = moves sizes number in
-    let move : Move = next_move sizes number earlier in
-    let event : Event = Alloc move.info stack size in
-    record {
-      allocs = λ i.
-          let own : cond {A = ℕ} ((move.info == i) && not move.frees) 1 0 ≡ cond {A = ℕ} (move.info == i) 1 0 =
-          ap (λ b. cond {A = ℕ} ((move.info == i) && not b) 1 0) kind ∙ of_kind (move.info == i) in
-          omega (
-            arith,
-            count_push (is_alloc_of i) taken event,
-            figures.allocs i,
-            ap (allocated i) (next_moves sizes number),
-            count_push (λ m. (m.info == i) && not m.frees) earlier move,
-            own,
-          );
-      frees = λ i.
-          let other : cond {A = ℕ} ((move.info == i) && move.frees) 1 0 ≡ 0 =
-          ap (λ b. cond {A = ℕ} ((move.info == i) && b) 1 0) kind ∙ of_other_kind (move.info == i) in
-          omega (
-            arith,
-            count_push (is_free_of i) taken event,
-            figures.frees i,
-            ap (freed i) (next_moves sizes number),
-            count_push (λ m. (m.info == i) && m.frees) earlier move,
-            other,
-          );
-      bytes = omega (arith, sum_by-append alloc_size taken (event ∷ []), figures.bytes, fits);
-    }
+    let move : Move = next_move sizes number (moves sizes number) in
+    figures_more sizes number taken (Alloc move.info stack size)
+    (λ i. ap (λ b. cond {A = ℕ} ((move.info == i) && not b) 1 0) kind ∙ of_kind (move.info == i))
+    (λ i. ap (λ b. cond {A = ℕ} ((move.info == i) && b) 1 0) kind ∙ of_other_kind (move.info == i)) fits figures
