@@ -42,57 +42,36 @@ count_push test earlier move =
 
 module _ (live : List ℕ) (earlier : List Move) (move : Move) (new info : ℕ) (within : move.info < length live)
     (before : slice_index_or live info 0 + freed info earlier ≡ allocated info earlier) where
+  counted : (frees allocates : ℕ) → cond {A = ℕ} ((move.info == info) && move.frees) 1 0 ≡ frees
+      → cond {A = ℕ} ((move.info == info) && not move.frees) 1 0 ≡ allocates
+      → slice_index_or (slice_set live move.info new) info 0 + frees ≡ slice_index_or live info 0 + allocates
+      → slice_index_or (slice_set live move.info new) info 0 + freed info (earlier ++ move ∷ [])
+      ≡ allocated info (earlier ++ move ∷ [])
+  counted frees allocates one two step =
+      omega (
+        arith,
+        before,
+        count_push (λ m. (m.info == info) && m.frees) earlier move,
+        count_push (λ m. (m.info == info) && not m.frees) earlier move,
+      )
+
   other_info : (move.info == info) ≡ false → info ≢ move.info
       → slice_index_or (slice_set live move.info new) info 0 + freed info (earlier ++ move ∷ [])
       ≡ allocated info (earlier ++ move ∷ [])
   other_info test other =
-      let one : cond {A = ℕ} ((move.info == info) && move.frees) 1 0 ≡ 0 = rw test refl in
-      let two : cond {A = ℕ} ((move.info == info) && not move.frees) 1 0 ≡ 0 = rw test refl in
-      omega (
-        arith,
-        before,
-        one,
-        two,
-        get_or-set_other live move.info info new 0 other,
-        count_push (λ m. (m.info == info) && m.frees) earlier move,
-        count_push (λ m. (m.info == info) && not m.frees) earlier move,
-      )
+      counted 0 0 (rw test refl) (rw test refl) (ap (λ n. n + 0) (get_or-set_other live move.info info new 0 other))
 
   freed_here : (move.info == info) ≡ true → move.frees ≡ true
       → slice_index_or (slice_set live move.info new) info 0 ≡ new → new + 1 ≡ slice_index_or live info 0
       → slice_index_or (slice_set live move.info new) info 0 + freed info (earlier ++ move ∷ [])
       ≡ allocated info (earlier ++ move ∷ [])
-  freed_here test kind set less =
-      let one : cond {A = ℕ} ((move.info == info) && move.frees) 1 0 ≡ 1 = rw (test, kind) refl in
-      let two : cond {A = ℕ} ((move.info == info) && not move.frees) 1 0 ≡ 0 = rw (test, kind) refl in
-      omega (
-        arith,
-        before,
-        one,
-        two,
-        set,
-        less,
-        count_push (λ m. (m.info == info) && m.frees) earlier move,
-        count_push (λ m. (m.info == info) && not m.frees) earlier move,
-      )
+  freed_here test kind set less = counted 1 0 (rw (test, kind) refl) (rw (test, kind) refl) (omega arith)
 
   allocated_here : (move.info == info) ≡ true → move.frees ≡ false
       → slice_index_or (slice_set live move.info new) info 0 ≡ new → new ≡ slice_index_or live info 0 + 1
       → slice_index_or (slice_set live move.info new) info 0 + freed info (earlier ++ move ∷ [])
       ≡ allocated info (earlier ++ move ∷ [])
-  allocated_here test kind set more =
-      let one : cond {A = ℕ} ((move.info == info) && move.frees) 1 0 ≡ 0 = rw (test, kind) refl in
-      let two : cond {A = ℕ} ((move.info == info) && not move.frees) 1 0 ≡ 1 = rw (test, kind) refl in
-      omega (
-        arith,
-        before,
-        one,
-        two,
-        set,
-        more,
-        count_push (λ m. (m.info == info) && m.frees) earlier move,
-        count_push (λ m. (m.info == info) && not m.frees) earlier move,
-      )
+  allocated_here test kind set more = counted 0 1 (rw (test, kind) refl) (rw (test, kind) refl) (omega arith)
 
   by_kind : (kind : Bool) → move.frees ≡ kind → (move.info == info) ≡ true → move.info ≡ info
       → (move.frees ≡ false → new ≡ slice_index_or live move.info 0 + 1)
