@@ -222,57 +222,46 @@ sifting-held whole changes seen kept last left i j change now is read =
     (between-at (length seen) 0 (take i changes) change (drop left changes) last
     (subst (λ (xs : List Change). IsBetween (length seen) 0 xs last) same now.between)).0
 
--- the kept place that comes next is behind all that is left to read
-pub ahead-next :
-    (whole changes : List Change) (seen kept : List ℕ) (last left i j next : ℕ) (change : Change)
-    → Sifting whole changes seen kept last left j
-    → j ≡ i + 1
-    → change ≡ get_or changes i change
-    → IsBetween (length seen) 0 (take j changes) (slice_index kept next)
-    → IsBetween (length seen) 0 (take i changes) change.place × (change.place ≤ slice_index kept next)
-ahead-next whole changes seen kept last left i j next change now is read ahead =
-    let before = now.before in
-    let within = now.within in
-    let same : take j changes ≡ take i changes ++ change ∷ [] =
-    ap (λ (n : ℕ). take n changes) is ∙ take_more changes i change (omega arith)
-    ∙ ap (λ (c : Change). take i changes ++ c ∷ []) (sym read)
-    in
-    between-front (length seen) 0 (take i changes) change (slice_index kept next)
-    (subst (λ (xs : List Change). IsBetween (length seen) 0 xs (slice_index kept next)) same ahead)
+-- where one change more is read
+module _ (whole changes : List Change) (seen kept : List ℕ) (last left i j next : ℕ) (change : Change)
+    (now : Sifting whole changes seen kept last left j) (is : j ≡ i + 1) (read : change ≡ get_or changes i change) where
+  -- the kept place that comes next is behind all that is left to read
+  pub ahead-next : IsBetween (length seen) 0 (take j changes) (slice_index kept next)
+      → IsBetween (length seen) 0 (take i changes) change.place × (change.place ≤ slice_index kept next)
+  ahead-next ahead =
+      let before = now.before in
+      let within = now.within in
+      let same : take j changes ≡ take i changes ++ change ∷ [] =
+      ap (λ (n : ℕ). take n changes) is ∙ take_more changes i change (omega arith)
+      ∙ ap (λ (c : Change). take i changes ++ c ∷ []) (sym read)
+      in
+      between-front (length seen) 0 (take i changes) change (slice_index kept next)
+      (subst (λ (xs : List Change). IsBetween (length seen) 0 xs (slice_index kept next)) same ahead)
 
--- and so is the one that comes next then, where the change is taken out
-pub ahead-out :
-    (whole changes : List Change) (seen kept : List ℕ) (last left i j next : ℕ) (change : Change)
-    → Sifting whole changes seen kept last left j
-    → j ≡ i + 1
-    → change ≡ get_or changes i change
-    → change.place ≤ slice_index kept next
-    → IsBetween (length seen) 0 (take i changes) (slice_index kept next)
-ahead-out whole changes seen kept last left i j next change now is read up =
-    let before = now.before in
-    let within = now.within in
-    let same = next-is changes (drop left changes) change i j is (omega arith) read in
-    between-raise (length seen) 0 (take i changes) change.place (slice_index kept next) up
-    (between-before (length seen) 0 (take i changes) change (drop left changes) last
-    (subst (λ (xs : List Change). IsBetween (length seen) 0 xs last) same now.between))
+  -- and so is the one that comes next then, where the change is taken out
+  pub ahead-out : change.place ≤ slice_index kept next
+      → IsBetween (length seen) 0 (take i changes) (slice_index kept next)
+  ahead-out up =
+      let before = now.before in
+      let within = now.within in
+      let same = next-is changes (drop left changes) change i j is (omega arith) read in
+      between-raise (length seen) 0 (take i changes) change.place (slice_index kept next) up
+      (between-before (length seen) 0 (take i changes) change (drop left changes) last
+      (subst (λ (xs : List Change). IsBetween (length seen) 0 xs last) same now.between))
 
--- and where it is kept
-pub ahead-kept :
-    (whole changes : List Change) (seen kept : List ℕ) (last left i j next : ℕ) (change : Change)
-    → Sifting whole changes seen kept last left j
-    → j ≡ i + 1
-    → change ≡ get_or changes i change
-    → change.place ≤ slice_index kept next
-    → IsBetween (length (set seen change.stack change.place)) 0 (take i (set changes (left - 1) change))
-    (slice_index kept next)
-ahead-kept whole changes seen kept last left i j next change now is read up =
-    let before = now.before in
-    let front_is : take i (set changes (left - 1) change) ≡ take i changes =
-    take-set-le i changes (left - 1) change (omega arith) in
-    let long : length (set seen change.stack change.place) ≡ length seen = length-set seen change.stack change.place in
-    subst (λ (n : ℕ). IsBetween n 0 (take i (set changes (left - 1) change)) (slice_index kept next)) (sym long)
-    (subst (λ (xs : List Change). IsBetween (length seen) 0 xs (slice_index kept next)) (sym front_is)
-    (ahead-out whole changes seen kept last left i j next change now is read up))
+  -- and where it is kept
+  pub ahead-kept : change.place ≤ slice_index kept next
+      → IsBetween (length (set seen change.stack change.place)) 0 (take i (set changes (left - 1) change))
+      (slice_index kept next)
+  ahead-kept up =
+      let before = now.before in
+      let front_is : take i (set changes (left - 1) change) ≡ take i changes =
+      take-set-le i changes (left - 1) change (omega arith) in
+      let long : length (set seen change.stack change.place) ≡ length seen =
+      length-set seen change.stack change.place in
+      subst (λ (n : ℕ). IsBetween n 0 (take i (set changes (left - 1) change)) (slice_index kept next)) (sym long)
+      (subst (λ (xs : List Change). IsBetween (length seen) 0 xs (slice_index kept next)) (sym front_is)
+      (ahead-out up))
 
 -- the kept places in another order
 pub asked-moved : (kept sorted : List ℕ) (last place : ℕ) → IsPermutation kept sorted → IsAsked kept last place

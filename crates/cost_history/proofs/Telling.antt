@@ -8,7 +8,7 @@ use Rattle.std.specs.List.{range_with_len}
 use Rattle.std.proofs.lemmas.Bool.{both_ways, cases_Bool, cases_eq, cases_lt}
 use Rattle.std.proofs.lemmas.List.FromFn.{get_or-range_with_len, length-range_with_len}
 use Rattle.cost_history.specs.declared.change.Change.{Change}
-use Rattle.cost_history.specs.Changes.{IsBetween, cost_at, cost_behind}
+use Rattle.cost_history.specs.Changes.{IsBetween, cost_at, cost_behind, says}
 use Rattle.cost_history.specs.HistoryView.{IsKept}
 use Rattle.cost_history.specs.HistoryState.{AreSaid, HistoryState, TellsNow, changes_to}
 use Rattle.cost_history.specs.Marks.{candidates, has, is_marked}
@@ -20,48 +20,60 @@ use Rattle.cost_history.proofs.Marking.{has-at, has-first, has-others, le-ltb, l
 abbrev changes_of : ℕ → (ℕ → ℕ) → List ℕ → List Change
 changes_of place costs xs = map (λ (stack : ℕ). record { place = place; stack = stack; cost = costs stack }) xs
 
--- one more change, where its stack is one that is there
+-- one stack more, by whether it is one that is there
+changes-more : (stacks place : ℕ) (costs : ℕ → ℕ) (first : ℕ) (others : List ℕ) (held : Bool)
+    → nat_lt first stacks ≡ held
+    → changes_to stacks place costs (first ∷ others)
+    ≡ changes_of place costs
+    (cond {A = List ℕ} held (first ∷ filter (λ stack. nat_lt stack stacks) others)
+    (filter (λ stack. nat_lt stack stacks) others))
+changes-more stacks place costs first others held is =
+    ap (λ (b : Bool). changes_of place costs
+    (cond {A = List ℕ} b (first ∷ filter (λ stack. nat_lt stack stacks) others)
+    (filter (λ stack. nat_lt stack stacks) others))) is
+
+-- one more change, where it is
 changes-first : (stacks place : ℕ) (costs : ℕ → ℕ) (first : ℕ) (others : List ℕ) → first < stacks
     → changes_to stacks place costs (first ∷ others)
     ≡ record { place = place; stack = first; cost = costs first } ∷ changes_to stacks place costs others
 changes-first stacks place costs first others held =
-    ap (λ (b : Bool). changes_of place costs
-    (cond {A = List ℕ} b (first ∷ filter (λ stack. nat_lt stack stacks) others)
-    (filter (λ stack. nat_lt stack stacks) others)))
-    (lt-ltb
-    first stacks held)
+    changes-more stacks place costs first others true (lt-ltb first stacks held)
 
--- and where it isn't
+-- and none where it isn't
 changes-none : (stacks place : ℕ) (costs : ℕ → ℕ) (first : ℕ) (others : List ℕ) → stacks ≤ first
     → changes_to stacks place costs (first ∷ others) ≡ changes_to stacks place costs others
 changes-none stacks place costs first others beyond =
-    ap (λ (b : Bool). changes_of place costs
-    (cond {A = List ℕ} b (first ∷ filter (λ stack. nat_lt stack stacks) others)
-    (filter (λ stack. nat_lt stack stacks) others)))
-    (le-ltb
-    first stacks beyond)
+    changes-more stacks place costs first others false (le-ltb first stacks beyond)
 
 -- the change of a stack
 abbrev pub change_of : ℕ → (ℕ → ℕ) → ℕ → Change
 change_of place costs stack = record { place = place; stack = stack; cost = costs stack }
+
+-- a first stack whose change says nothing may be left out
+silent-first : (stacks place : ℕ) (costs : ℕ → ℕ) (first : ℕ) (others : List ℕ) (before seer stack : ℕ)
+    → (first < stacks → says (change_of place costs first) seer stack ≡ false)
+    → cost_behind before (changes_to stacks place costs (first ∷ others)) seer stack
+    ≡ cost_behind before (changes_to stacks place costs others) seer stack
+silent-first stacks place costs first others before seer stack silent =
+    elim (cases_lt first stacks) [
+      | inl held ↦
+          ap (λ (xs : List Change). cost_behind before xs seer stack)
+          (changes-first stacks place costs first others held)
+          ∙ behind-passed before (change_of place costs first) (changes_to stacks place costs others) seer stack
+          (silent held)
+      | inr beyond ↦
+          ap (λ (xs : List Change). cost_behind before xs seer stack)
+          (changes-none stacks place costs first others (omega arith))
+    ]
 
 -- before their place the new changes say nothing
 pub early-cost : (stacks place : ℕ) (costs : ℕ → ℕ) (list : List ℕ) (before seer stack : ℕ) → seer < place
     → cost_behind before (changes_to stacks place costs list) seer stack ≡ before
 early-cost stacks place costs [] before seer stack early = refl
 early-cost stacks place costs (first ∷ others) before seer stack early =
-    elim (cases_lt first stacks) [
-      | inl held ↦
-          ap (λ (xs : List Change). cost_behind before xs seer stack)
-          (changes-first stacks place costs first others held)
-          ∙ behind-passed before (change_of place costs first) (changes_to stacks place costs others) seer stack
-          (says-late (change_of place costs first) seer stack early)
-          ∙ early-cost stacks place costs others before seer stack early
-      | inr beyond ↦
-          ap (λ (xs : List Change). cost_behind before xs seer stack)
-          (changes-none stacks place costs first others (omega arith))
-          ∙ early-cost stacks place costs others before seer stack early
-    ]
+    silent-first stacks place costs first others before seer stack
+    (λ held. says-late (change_of place costs first) seer stack early)
+    ∙ early-cost stacks place costs others before seer stack early
 
 -- nor of a stack that isn't listed
 pub unlisted-cost : (stacks place : ℕ) (costs : ℕ → ℕ) (list : List ℕ) (before seer stack : ℕ) → has list stack ≡ false
@@ -70,20 +82,11 @@ unlisted-cost stacks place costs [] before seer stack none = refl
 unlisted-cost stacks place costs (first ∷ others) before seer stack none =
     elim (cases_eq first stack) [
       | inl own ↦ absurd (both_ways _ none (has-first first others stack own))
-      | inr other ↦ elim (cases_lt first stacks) [
-        | inl held ↦
-            ap (λ (xs : List Change). cost_behind before xs seer stack)
-            (changes-first stacks place costs first others held)
-            ∙ behind-passed before (change_of place costs first) (changes_to stacks place costs others) seer stack
-            (says-other (change_of place costs first) seer stack other)
-            ∙ unlisted-cost stacks place costs others before seer stack
-            (sym (has-others first others stack other) ∙ none)
-        | inr beyond ↦
-            ap (λ (xs : List Change). cost_behind before xs seer stack)
-            (changes-none stacks place costs first others (omega arith))
-            ∙ unlisted-cost stacks place costs others before seer stack
-            (sym (has-others first others stack other) ∙ none)
-      ]
+      | inr other ↦
+          silent-first stacks place costs first others before seer stack
+          (λ held. says-other (change_of place costs first) seer stack other)
+          ∙ unlisted-cost stacks place costs others before seer stack
+          (sym (has-others first others stack other) ∙ none)
     ]
 
 -- from their place on they say what a listed stack costs, where it is there
@@ -103,20 +106,10 @@ listed-cost stacks place costs (first ∷ others) before seer stack late there i
             | inr once ↦ unlisted-cost stacks place costs others (costs first) seer stack once ∙ ap costs own
           ]
       | inr other ↦
-          (let rest = λ (b : ℕ). listed-cost stacks place costs others b seer stack late there
-          (sym (has-others first others stack other) ∙ is) in
-          elim (cases_lt first stacks) [
-            | inl held ↦
-                ap (λ (xs : List Change). cost_behind before xs seer stack)
-                (changes-first stacks place costs first others held)
-                ∙ behind-passed before (change_of place costs first) (changes_to stacks place costs others) seer stack
-                (says-other (change_of place costs first) seer stack other)
-                ∙ rest before
-            | inr beyond ↦
-                ap (λ (xs : List Change). cost_behind before xs seer stack)
-                (changes-none stacks place costs first others (omega arith))
-                ∙ rest before
-          ])
+          silent-first stacks place costs first others before seer stack
+          (λ held. says-other (change_of place costs first) seer stack other)
+          ∙ listed-cost stacks place costs others before seer stack late there
+          (sym (has-others first others stack other) ∙ is)
     ]
 
 -- a stack that is there is a candidate where it is marked
@@ -179,18 +172,9 @@ kept-here state stacks place costs answers last seer stack said grown between as
         → cost_behind before (changes_to stacks place costs list) seer stack ≡ before
     beyond-cost stacks place costs [] before seer stack beyond = refl
     beyond-cost stacks place costs (first ∷ others) before seer stack beyond =
-        elim (cases_lt first stacks) [
-          | inl held ↦
-              ap (λ (xs : List Change). cost_behind before xs seer stack)
-              (changes-first stacks place costs first others held)
-              ∙ behind-passed before (change_of place costs first) (changes_to stacks place costs others) seer stack
-              (says-other (change_of place costs first) seer stack (λ same. absurd (omega arith)))
-              ∙ beyond-cost stacks place costs others before seer stack beyond
-          | inr above ↦
-              ap (λ (xs : List Change). cost_behind before xs seer stack)
-              (changes-none stacks place costs first others (omega arith))
-              ∙ beyond-cost stacks place costs others before seer stack beyond
-        ]
+        silent-first stacks place costs first others before seer stack
+        (λ held. says-other (change_of place costs first) seer stack (λ same. absurd (omega arith)))
+        ∙ beyond-cost stacks place costs others before seer stack beyond
 
 -- the changes of two lists, one after the other
 changes-append : (stacks place : ℕ) (costs : ℕ → ℕ) (xs ys : List ℕ)
