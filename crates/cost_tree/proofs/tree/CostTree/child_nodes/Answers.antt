@@ -16,7 +16,9 @@ returns-then-next_sibling-eq0 c =
     IsWalk-first nodes (firsts_in links) (nexts_in links) c.args.n c.self.invariant.links.children
     (omega (arith, c.requires.held)) in
     let first =
-    subst (λ (k : ℕ). IsWalk nodes (firsts_in links) (nexts_in links) c.args.n k × (children_of nodes c.args.n ≡ chain nodes c.args.n k))
+    subst
+    (λ (k : ℕ). IsWalk nodes (firsts_in links) (nexts_in links) c.args.n k
+    × (children_of nodes c.args.n ≡ chain nodes c.args.n k))
     (sym c.first_child-child.ensures) walk in
     ap (λ (t : TreeState). children_of t.nodes c.args.n) (sym c.self.view_is)
     ∙ first.1
