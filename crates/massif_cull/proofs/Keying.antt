@@ -496,7 +496,8 @@ new-gap places entries keys k place before after j p between at =
         | inl next ↦
             let back : k - 1 ≡ j = omega arith in
             let is : before ≡ p = same_Some before p
-            (sym between.at_before ∙ ap (slice_get places) back ∙ sym (get-remove_below places k j (omega arith)) ∙ at) in
+            (sym between.at_before ∙ ap (slice_get places) back ∙ sym (get-remove_below places k j (omega arith))
+            ∙ at) in
             let beside_apart : before ≢ after =
             apart-at places (k - 1) (k + 1) before after keyed.different between.at_before between.at_after
             (λ e. omega arith) in
@@ -506,7 +507,8 @@ new-gap places entries keys k place before after j p between at =
             ∙ ap (gap_to_go (remove entries k)) back)
         | inr far ↦
             let old = kept-at places k j p at in
-            let not_place : p ≢ place = apart-at places old.0 k p place keyed.different old.1 between.here (λ e. elim old.2 [
+            let not_place : p ≢ place =
+            apart-at places old.0 k p place keyed.different old.1 between.here (λ e. elim old.2 [
               | inl early ↦ (let a = early.0 in let b = early.1 in omega arith)
               | inr late ↦ (let a = late.0 in let b = late.1 in far (omega arith))
             ]) in

@@ -9,7 +9,8 @@ use Rattle.std.proofs.lemmas.List.{get_or_default, length-set, length_push}
 use Rattle.std.proofs.lemmas.List.Edits.{length-remove}
 use Rattle.std.proofs.lemmas.Option.{slice_get_within}
 use Rattle.massif_cull.specs.declared.links.Links.TheInside.{Inside}
-use Rattle.massif_cull.specs.Linked.{walk, unless_end, EachOf, IsOutside, AreBelow, AreDifferent, AreLinked, links_of, IsLinked}
+use Rattle.massif_cull.specs.Linked.{walk, unless_end, EachOf, IsOutside, AreBelow, AreDifferent, AreLinked}
+use Rattle.massif_cull.specs.Linked.{links_of, IsLinked}
 use Rattle.massif_cull.specs.LinksState.{IsNext, IsPrevious}
 use Rattle.massif_cull.proofs.Linking.{each-left, each-right, each-at, each-weaker, each-given, each-returned}
 use Rattle.massif_cull.proofs.Linking.{contained-at, different-left, different-pop, different-given, different-returned}

@@ -1,7 +1,7 @@
 -- The first of keys: what one choice of two says, that the top of a tournament is the first of all,
 -- and how one is kept.
-use Rattle.std.proofs.Common.{◌≡◌, ◌≢◌, ◌⊎◌, ℕ, ◌+◌, ◌-◌, ◌/◌, ◌<◌, ◌≤◌, zero, suc, true, List, [], ◌∷◌, length, drop, map}
-use Rattle.std.proofs.Common.{set, get_or, inl, inr, refl, sym, ap, subst, ◌∙◌, arith}
+use Rattle.std.proofs.Common.{◌≡◌, ◌≢◌, ◌⊎◌, ℕ, ◌+◌, ◌-◌, ◌/◌, ◌<◌, ◌≤◌, zero, suc, true, List, [], ◌∷◌, length}
+use Rattle.std.proofs.Common.{drop, map, set, get_or, inl, inr, refl, sym, ap, subst, ◌∙◌, arith}
 use Rattle.std.proofs.lemmas.Bool.{cases_eq, cases_lt, lt-ltb, le-ltb}
 use Rattle.std.proofs.lemmas.List.{drop-set-add, get_or_default, get_or-set_same, get_or-set_other, get_or-drop}
 use Rattle.std.proofs.lemmas.List.{length-set, length-drop}
