@@ -189,7 +189,23 @@ figures-counted options ignored events running (Free info stack size) counted ca
     refl (with-once options.unit running (gross options size)) refl (omega arith) (omega arith) figures
 figures-counted options ignored events running (Tick ms) counted can figures = absurd (false≢true counted)
 
--- with one that isn't counted
+-- with one that isn't counted, which weighs nothing
+figures-idle :
+    (options : MassifOptions) (ignored : ℕ → Bool) (events : List Event) (event : Event) (running : Running)
+    → is_counted event ≡ true
+    → clock_value event ≡ 0
+    → counts ignored event ≡ false
+    → moved_bytes options ignored event ≡ 0
+    → free_weight (heap_weight ignored) event ≡ alloc_weight (heap_weight ignored) event
+    → free_weight (gross_weight options ignored) event ≡ alloc_weight (gross_weight options ignored) event
+    → AreFigures options ignored events running
+    → AreFigures options ignored (events ++ event ∷ []) (passed options running)
+figures-idle options ignored events event running is no_value none moved heap_is gross_is figures =
+    figures-push options ignored events event running (passed options running) 0 0 is no_value moved
+    (ap (λ (b : Bool). cond {A = ℕ} b 1 0) none) refl (with-none options.unit running) refl (omega arith) (omega arith)
+    figures
+
+-- and with any that isn't counted
 pub figures-passed :
     (options : MassifOptions) (ignored : ℕ → Bool) (events : List Event) (running : Running) (event : Event)
     → counts ignored event ≡ false
@@ -198,15 +214,13 @@ pub figures-passed :
 figures-passed options ignored events running (Alloc info stack size) none figures =
     let heap_is = weight-ignored ignored stack size none in
     let gross_is = weight-ignored ignored stack (gross options size) none in
-    figures-push options ignored events (Alloc info stack size) running (passed options running) 0 0 refl refl
-    (omega arith) (ap (λ (b : Bool). cond {A = ℕ} b 1 0) none)
-    refl (with-none options.unit running) refl (omega arith) (omega arith) figures
+    figures-idle options ignored events (Alloc info stack size) running refl refl none (omega arith) (omega arith)
+    (omega arith) figures
 figures-passed options ignored events running (Free info stack size) none figures =
     let heap_is = weight-ignored ignored stack size none in
     let gross_is = weight-ignored ignored stack (gross options size) none in
-    figures-push options ignored events (Free info stack size) running (passed options running) 0 0 refl refl
-    (omega arith) (ap (λ (b : Bool). cond {A = ℕ} b 1 0) none)
-    refl (with-none options.unit running) refl (omega arith) (omega arith) figures
+    figures-idle options ignored events (Free info stack size) running refl refl none (omega arith) (omega arith)
+    (omega arith) figures
 figures-passed options ignored events running (Tick ms) none figures =
     figures-tick options ignored events running ms figures
 

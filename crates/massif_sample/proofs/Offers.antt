@@ -1,12 +1,13 @@
 -- The offers of a list of events with one more.
 use Rattle.std.proofs.Common.{◌≡◌, ℕ, zero, suc, ◌+◌, ◌<◌, ◌≤◌, List, [], ◌∷◌, ◌++◌, length, Bool, true, false, cond}
-use Rattle.std.proofs.Common.{refl, ap, sym, ◌∙◌, arith, add-one, append-nil}
+use Rattle.std.proofs.Common.{refl, ap, sym, subst, ◌∙◌, arith, add-one, append-nil}
 use Rattle.std.specs.Prelude.{flat_map, slice_get, Option, Some, None}
 use Rattle.std.specs.List.{range_with_len}
 use Rattle.std.specs.Option.{option_map_or}
 use Rattle.std.proofs.lemmas.List.Concat.{flat_map-append}
 use Rattle.std.proofs.lemmas.List.Elements.{filter-append}
 use Rattle.std.proofs.lemmas.List.Sums.{length-filter}
+use Rattle.ht_trace.specs.TableState.{TableState}
 use Rattle.live_ledger.specs.declared.event.Event.{Event}
 use Rattle.live_ledger.specs.declared.event.Event.TheVariants.{Tick}
 use Rattle.live_ledger.specs.Events.{counted, event_count, is_counted, is_free}
@@ -14,10 +15,13 @@ use Rattle.massif_cull.specs.declared.snapshot.Offer.{Offer}
 use Rattle.massif_sample.specs.declared.options.MassifOptions.{MassifOptions}
 use Rattle.massif_sample.specs.declared.running.Running.{Running}
 use Rattle.massif_sample.specs.Counted.{counts}
+use Rattle.massif_sample.specs.FunctionNames.{FunctionNames, ignores}
 use Rattle.massif_sample.specs.HeapTotals.{gross_total}
 use Rattle.massif_sample.specs.Offers.{offer_at, offers, offers_behind, offers_of_event}
 use Rattle.massif_sample.specs.Places.{time_at}
 use Rattle.massif_sample.specs.Running.{AreFigures}
+use Rattle.massif_sample.specs.SamplesState.{SamplesState}
+use Rattle.massif_sample.specs.StandsFor.{IsSampling}
 use Rattle.massif_sample.specs.Times.{time_of}
 use Rattle.massif_sample.specs.View.{offer_of}
 use Rattle.massif_sample.proofs.Figures.{gross-now}
@@ -36,6 +40,14 @@ offer-now options ignored events running as_peak figures =
     ap (λ (k : ℕ). made k running.time running.gross) place
     ∙ ap (λ (t : ℕ). made (event_count events) t running.gross) time
     ∙ ap (λ (g : ℕ). made (event_count events) (time_at options ignored events (event_count events)) g) gross
+
+-- so what is true of the one that samples make now is true of it
+pub offered-now : (P : Offer → Type 0) {samples : SamplesState} {names : FunctionNames} {tables : TableState}
+    {events : List Event} {made : List Offer} (as_peak : Bool)
+    → IsSampling samples names tables events made → P (offer_of samples.running as_peak)
+    → P (offer_at samples.options (ignores tables names) events as_peak (event_count events))
+offered-now P {samples} {names} {tables} {events} as_peak was is =
+    subst P (offer-now samples.options (ignores tables names) events samples.running as_peak was.figures) is
 
 -- an offer at a place that was passed stays
 pub offer-front : (options : MassifOptions) (ignored : ℕ → Bool) (events more : List Event) (as_peak : Bool) (k : ℕ)

@@ -32,20 +32,29 @@ use Rattle.massif_sample.specs.Times.{time_of}
 use Rattle.massif_sample.proofs.Figures.{gross-now, heap-now}
 use Rattle.massif_sample.proofs.UpTo.{up_to-front}
 
+-- a snapshot of another kind, which has a tree of other changes where that has one, has the figures that it had
+rekinded : (options : MassifOptions) (names : FunctionNames) (tables : TableState) (events : List Event)
+    (old new : List Change) (entry : SnapEntry) (as_kind : Kind) (load : Load)
+    → (WhereTree entry.kind (AreCostsAt names tables events entry.place old)
+    → WhereTree as_kind (AreCostsAt names tables events entry.place new))
+    → IsSnapshot options names tables events old entry load
+    → IsSnapshot options names tables events new (record entry { kind = as_kind }) load
+rekinded options names tables events old new entry as_kind load tree is = record {
+  place = is.place;
+  time = is.time;
+  total = is.total;
+  heap = is.heap;
+  extra = is.extra;
+  tree = tree is.tree;
+}
+
 -- a peak that became normal has the figures that it had
 pub ended : (options : MassifOptions) (names : FunctionNames) (tables : TableState) (events : List Event)
     (changes : List Change) (entry : SnapEntry) (load : Load)
     → IsSnapshot options names tables events changes entry load
     → IsSnapshot options names tables events changes (end_peak entry) load
 ended options names tables events changes entry load is =
-    record {
-      place = is.place;
-      time = is.time;
-      total = is.total;
-      heap = is.heap;
-      extra = is.extra;
-      tree = by_kind entry.kind is.tree;
-    }
+    rekinded options names tables events changes changes entry (end_peak entry).kind load (by_kind entry.kind) is
   where
     by_kind : (k : Kind) → WhereTree k (AreCostsAt names tables events entry.place changes)
         → WhereTree (end_peak (record entry { kind = k })).kind (AreCostsAt names tables events entry.place changes)
@@ -87,14 +96,7 @@ pub retold : (options : MassifOptions) (names : FunctionNames) (tables : TableSt
     → IsSnapshot options names tables events old entry load
     → IsSnapshot options names tables events new entry load
 retold options names tables events old new entry load serves is =
-    record {
-      place = is.place;
-      time = is.time;
-      total = is.total;
-      heap = is.heap;
-      extra = is.extra;
-      tree = by_kind entry.kind refl is.tree;
-    }
+    rekinded options names tables events old new entry entry.kind load (by_kind entry.kind refl) is
   where
     by_kind : (k : Kind) → entry.kind ≡ k → WhereTree k (AreCostsAt names tables events entry.place old)
         → WhereTree k (AreCostsAt names tables events entry.place new)

@@ -12,7 +12,7 @@ use Rattle.massif_sample.specs.Snapshots.{cost_at}
 use Rattle.massif_sample.specs.StandsFor.{IsSampling}
 use Rattle.massif_sample.specs.View.{offer_of}
 use Rattle.massif_sample.proofs.Costs.{said-as}
-use Rattle.massif_sample.proofs.Offers.{offer-now}
+use Rattle.massif_sample.proofs.Offers.{offer-now, offered-now}
 use Rattle.massif_sample.proofs.Trees.{at_err, taken-with_tree}
 use Rattle.massif_sample.proofs.offering.take_due.Goals as goal
 
@@ -20,12 +20,8 @@ pub returns-then-taken-eq1-clause-sampling : goal.returns-then-taken-eq1-clause-
 returns-then-taken-eq1-clause-sampling g c =
     let normal : c.args.taken ≡ Normal = search rules in
     λ names events made texts said was.
-    let offer_is =
-    offer-now c.args.samples.now.options (ignores c.args.stacks.now.tables.now names) events c.args.samples.now.running
-    c.args.as_peak was.figures in
-    subst (λ (o : Offer). IsSampling c.take.new.self names c.args.stacks.now.tables.now events (made ++ o ∷ []))
-    offer_is
-    (c.take.ensures.sampling names c.args.stacks.now.tables.now events made (inl normal) was)
+    offered-now (λ (o : Offer). IsSampling c.take.new.self names c.args.stacks.now.tables.now events (made ++ o ∷ []))
+    c.args.as_peak was (c.take.ensures.sampling names c.args.stacks.now.tables.now events made (inl normal) was)
 
 pub returns-in_err-add_fronts-clause-offered : goal.returns-in_err-add_fronts-clause-offered
 returns-in_err-add_fronts-clause-offered g c =
@@ -38,12 +34,8 @@ returns-in_err-add_fronts-clause-offered g c =
       some = search rules;
       due = at_err c.from_residual.result
           (λ names events made was.
-          let offer_is =
-          offer-now c.args.samples.now.options (ignores c.args.stacks.now.tables.now names) events
-          c.args.samples.now.running
-          c.args.as_peak was.figures in
-          subst (λ (o : Offer). IsTakenAs c.args.samples.now.options made o (with_tree c.args.as_peak)) offer_is
-          (record {
+          offered-now (λ (o : Offer). IsTakenAs c.args.samples.now.options made o (with_tree c.args.as_peak))
+          c.args.as_peak was (record {
             taken_is =
                 taken-with_tree (settings_of c.args.samples.now.options)
                 (kept_of (settings_of c.args.samples.now.options) made)
@@ -64,12 +56,8 @@ returns-in_err-keep-clause-offered g c =
       some = search rules;
       due = at_err c.from_residual-in_err-keep.result
           (λ names events made was.
-          let offer_is =
-          offer-now c.args.samples.now.options (ignores c.args.stacks.now.tables.now names) events
-          c.args.samples.now.running
-          c.args.as_peak was.figures in
-          subst (λ (o : Offer). IsTakenAs c.args.samples.now.options made o (with_tree c.args.as_peak)) offer_is
-          (record {
+          offered-now (λ (o : Offer). IsTakenAs c.args.samples.now.options made o (with_tree c.args.as_peak))
+          c.args.as_peak was (record {
             taken_is =
                 taken-with_tree (settings_of c.args.samples.now.options)
                 (kept_of (settings_of c.args.samples.now.options) made)
