@@ -1,11 +1,10 @@
 //! The nodes of the stacks of scripts, each of which is one frame, and the stacks that were read lately.
-ghost use Rattle.std.specs.Prelude.{◌≡◌, ◌+◌, ◌-◌, ◌^◌, ◌≤◌, ◌↔◌, true, [], length, reverse, IsTrue, IfErr, IfOk, OnOk};
+ghost use Rattle.std.specs.Prelude.{◌≡◌, ◌+◌, ◌-◌, ◌^◌, ◌≤◌, ◌↔◌, [], length, reverse, IsTrue, IfErr, IfOk, OnOk};
 ghost use Rattle.stack_table.specs.AreNodes.{AreNodes};
 ghost use Rattle.ht_lines.specs.Fields.{numbers};
 ghost use Rattle.ht_lines.specs.Written.{AreWords};
 ghost use Rattle.record_scripts.specs.KnownText.{IsRead};
 ghost use Rattle.record_scripts.specs.ScriptFaults.{RefusesIps};
-ghost use Rattle.record_scripts.specs.ScriptLine.{are_ips};
 ghost use Rattle.record_scripts.specs.ScriptTurns.{AreSingle, InternsStack};
 
 use crate::fault::ScriptFault;
@@ -79,22 +78,12 @@ impl Stacks {
     {
         match node {
             Some(node) => Ok(node),
-            None => self.intern_new(text, ips),
+            None => {
+                let node = intern(&mut self.nodes, ips)?;
+                self.known.learn(text, node);
+                Ok(node)
+            }
         }
-    }
-
-    /// The node of a stack of these ips, with their text.
-    fn intern_new(&mut self, text: &[u8], ips: &[u64]) -> Result<u32, NoMemory>
-        requires said { ips.now ≡ numbers text.now }
-        requires good { are_ips (numbers text.now) ≡ true }
-        requires single { AreSingle (reverse self.old) }
-        requires room { length self.old + 256 ≤ 2 ^ 32 - 2 }
-        ensures interned { InternsStack self.old self.new (numbers text.now) result }
-        ensures words { OnOk result (AreWords (numbers text.now)) }
-    {
-        let node = intern(&mut self.nodes, ips)?;
-        self.known.learn(text, node);
-        Ok(node)
     }
 }
 
