@@ -1,9 +1,9 @@
-use Rattle.std.proofs.Common.{◌≡◌, ◌-◌, ◌<◌, get_or, ◌∙◌, arith}
+use Rattle.std.proofs.Common.{◌≡◌, ◌-◌, ◌<◌, ◌≤◌, length, get_or, ◌∙◌, arith}
 use Rattle.std.proofs.lemmas.Grind.{get_or_default_zero}
 use Rattle.std.proofs.lemmas.List.{length-set}
 use Rattle.cost_history.proofs.Sifting.{ahead-kept, ahead-next, ahead-out, sifting-held, sifting-kept, sifting-out}
 use Rattle.cost_history.proofs.thinning.sift.Goals as goal
-use Rattle.cost_history.proofs.thinning.sift.Goals.{After-index, After-index-change}
+use Rattle.cost_history.proofs.thinning.sift.Goals.{After-index, After-index-change, After-kept_from-next}
 
 pub kept_from-next-requires-clause-ahead : goal.kept_from-next-requires-clause-ahead
 kept_from-next-requires-clause-ahead c =
@@ -27,6 +27,11 @@ reads-cell c cell =
     c.index.ensures
     ∙ get_or_default_zero c.changes.seen.items c.index-change.result.now.stack c.index.result.now (omega arith)
 
+-- the kept place that comes next is one of them, or the end
+next-within : (c : After-kept_from-next) → c.kept_from-next.result ≤ length c.args.kept.now
+next-within c =
+    let fewer = c.kept_from-next.ensures.most in let was = c.changes.invariant.next_within in omega arith
+
 pub index-requires : goal.index-requires
 index-requires c = has-cell (goal.at.index-requires c).After-index-change
 
@@ -46,8 +51,7 @@ changes-preserved-then-index-until c =
       seen_long =
           (let long = length-set c.changes.seen.items c.index-change.result.now.stack
           c.index-change.result.now.place in let was = c.changes.invariant.seen_long in omega arith);
-      next_within =
-          (let fewer = c.kept_from-next.ensures.most in let was = c.changes.invariant.next_within in omega arith);
+      next_within = next-within (goal.at.changes-preserved-then-index-until c).After-kept_from-next;
       ahead = λ within.
           ahead-kept _ _ _ _ _ _ (c.changes.i - 1) c.changes.i c.kept_from-next.result c.index-change.result.now
           c.changes.invariant.sifting (omega arith) c.index-change.ensures
@@ -68,8 +72,7 @@ changes-preserved c =
           c.changes.invariant.sifting (omega arith) c.index-change.ensures c.until-until.ensures.asked (omega arith)
           (omega arith);
       seen_long = c.changes.invariant.seen_long;
-      next_within =
-          (let fewer = c.kept_from-next.ensures.most in let was = c.changes.invariant.next_within in omega arith);
+      next_within = next-within (goal.at.changes-preserved c).After-kept_from-next;
       ahead = λ within.
           ahead-out _ _ _ _ _ _ (c.changes.i - 1) c.changes.i c.kept_from-next.result c.index-change.result.now
           c.changes.invariant.sifting (omega arith) c.index-change.ensures
