@@ -7,10 +7,7 @@ use Rattle.order_check.proofs.order_check.OrderCheck.end.Goals as goal
 
 pub returns-then-not-is_complete : goal.returns-then-not-is_complete
 returns-then-not-is_complete c =
-    let stream = c.self.inside.stream in
-    let is =
-    done-is stream.job.scripts stream.order c.is_complete.result c.order-order.ensures.under c.is_complete.ensures.0
-    c.is_complete.ensures.1 in
+    let is = done-is _ _ _ c.order-order.ensures.under c.is_complete.ensures.0 c.is_complete.ensures.1 in
     record {
       events = λ lines has.
           open-end c.args.self.now lines c.args.ended has
@@ -20,10 +17,7 @@ returns-then-not-is_complete c =
 
 pub returns : goal.returns
 returns c =
-    let stream = c.self.inside.stream in
-    let is =
-    done-is stream.job.scripts stream.order c.is_complete.result c.order-order.ensures.under c.is_complete.ensures.0
-    c.is_complete.ensures.1 in
+    let is = done-is _ _ _ c.order-order.ensures.under c.is_complete.ensures.0 c.is_complete.ensures.1 in
     record {
       events = λ lines has.
           ap (λ (entries : List ℕ). Some (length entries))
