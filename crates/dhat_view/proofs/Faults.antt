@@ -29,20 +29,23 @@ no-figures key dhat has =
     cond-false (has_figures key dhat) (if nat_lt (2 ^ 62) (sum (point_costs key dhat)) then Some TooLarge else None)
     (Some NoFigures) has
 
-pub too-large : (key : FigureKey) (dhat : Dhat) → has_figures key dhat ≡ true → 2 ^ 62 < sum (point_costs key dhat)
-    → view_fault key dhat ≡ Some TooLarge
+by-sum : (key : FigureKey) (dhat : Dhat) → has_figures key dhat ≡ true
+    → view_fault key dhat ≡ (if nat_lt (2 ^ 62) (sum (point_costs key dhat)) then Some TooLarge else None)
 unfolding view_fault
-too-large key dhat has large =
+by-sum key dhat has =
     cond-true (has_figures key dhat) (if nat_lt (2 ^ 62) (sum (point_costs key dhat)) then Some TooLarge else None)
     (Some NoFigures) has
+
+pub too-large : (key : FigureKey) (dhat : Dhat) → has_figures key dhat ≡ true → 2 ^ 62 < sum (point_costs key dhat)
+    → view_fault key dhat ≡ Some TooLarge
+too-large key dhat has large =
+    by-sum key dhat has
     ∙ cond-true (nat_lt (2 ^ 62) (sum (point_costs key dhat))) (Some TooLarge) None
     (lt-ltb (2 ^ 62) (sum (point_costs key dhat)) large)
 
 pub no-fault : (key : FigureKey) (dhat : Dhat) → has_figures key dhat ≡ true → sum (point_costs key dhat) ≤ 2 ^ 62
     → view_fault key dhat ≡ None
-unfolding view_fault
 no-fault key dhat has within =
-    cond-true (has_figures key dhat) (if nat_lt (2 ^ 62) (sum (point_costs key dhat)) then Some TooLarge else None)
-    (Some NoFigures) has
+    by-sum key dhat has
     ∙ cond-false (nat_lt (2 ^ 62) (sum (point_costs key dhat))) (Some TooLarge) None
     (le-ltb (2 ^ 62) (sum (point_costs key dhat)) within)

@@ -1,10 +1,12 @@
-use Rattle.std.proofs.Common.{arith, Err, sym, ap, ◌∙◌}
+use Rattle.std.proofs.Common.{◌≡◌, arith, Err, None, sym, ap, ◌∙◌}
 use Rattle.std.proofs.lemmas.Option.{none-some, same_Some}
 use Rattle.dhat_view.specs.declared.fault.ViewFault.TheVariants.{NoFigures, TooLarge}
 use Rattle.dhat_view.proofs.Faults.{no-fault, no-figures, too-large}
+use Rattle.dhat_view.specs.ViewFault.{view_fault}
 use Rattle.dhat_view.specs.ViewText.{view_text}
 use Rattle.dhat_view.proofs.ViewSums.{text-sums}
 use Rattle.dhat_view.proofs.view.put_view.Goals as goal
+use Rattle.dhat_view.proofs.view.put_view.Goals.{In-Some}
 
 pub returns-then-not-has_figures-clause-fault : goal.returns-then-not-has_figures-clause-fault
 returns-then-not-has_figures-clause-fault c =
@@ -38,23 +40,19 @@ returns-in-Ok-clause-sums c =
     let dhat = c.args.dhat.now in
     (view_text key threshold depth dhat, text-sums key threshold depth dhat, c.in-Ok.ensures.appended)
 
-pub returns-in-Ok-clause-no_fault : goal.returns-in-Ok-clause-no_fault
-returns-in-Ok-clause-no_fault c =
+-- nothing stands against the view where the sum is at most 2^62
+small : (c : In-Some) → view_fault c.args.options.now.key c.args.dhat.now ≡ None
+small c =
     no-fault c.args.options.now.key c.args.dhat.now (sym c.has_figures.ensures.told ∙ c.if-not-has_figures.false)
     (let total = c.in-Some.ensures.sum in let within = c.in-Some.ensures.within in omega arith)
 
+pub returns-in-Ok-clause-no_fault : goal.returns-in-Ok-clause-no_fault
+returns-in-Ok-clause-no_fault c = small (goal.at.returns-in-Ok-clause-no_fault c).In-Some
+
 pub returns-in-Ok-clause-refused : goal.returns-in-Ok-clause-refused
 returns-in-Ok-clause-refused c = λ fault is.
-    absurd (none-some fault
-    (sym (no-fault c.args.options.now.key c.args.dhat.now
-    (sym c.has_figures.ensures.told ∙ c.if-not-has_figures.false)
-    (let total = c.in-Some.ensures.sum in let within = c.in-Some.ensures.within in omega arith))
-    ∙ is))
+    absurd (none-some fault (sym (small (goal.at.returns-in-Ok-clause-refused c).In-Some) ∙ is))
 
 pub returns-in-Err-clause-refused : goal.returns-in-Err-clause-refused
 returns-in-Err-clause-refused c = λ fault is.
-    absurd (none-some fault
-    (sym (no-fault c.args.options.now.key c.args.dhat.now
-    (sym c.has_figures.ensures.told ∙ c.if-not-has_figures.false)
-    (let total = c.in-Some.ensures.sum in let within = c.in-Some.ensures.within in omega arith))
-    ∙ is))
+    absurd (none-some fault (sym (small (goal.at.returns-in-Err-clause-refused c).In-Some) ∙ is))
