@@ -53,6 +53,15 @@ known-stays tables names new known stay are = record {
   told = λ instruction number is. stay number (instruction_place tables instruction) (are.told instruction number is);
 }
 
+set-within : (known : List ℕ) (instruction other number found : ℕ)
+    → slice_get (set known instruction number) other ≡ Some found → other < length known
+set-within known instruction other number found is =
+    omega (
+      arith,
+      slice_get_within (set known instruction number) other found is,
+      length-set known instruction number,
+    )
+
 -- one instruction more
 pub known-more : (tables : TableState) (names : List (List ℕ)) (known : List ℕ) (instruction number : ℕ)
     → slice_get names number ≡ Some (instruction_place tables instruction)
@@ -66,12 +75,7 @@ known-more tables names known instruction number has are = record {
         → eqb other instruction ≡ b → slice_get names k ≡ Some (instruction_place tables other)
     by other k is true test =
         let same : other ≡ instruction = grind (arith, nat_tests) in
-        let within : other < length known =
-        omega (
-          arith,
-          slice_get_within (set known instruction (number + 1)) other (suc k) is,
-          length-set known instruction (number + 1),
-        ) in
+        let within = set-within known instruction other (number + 1) (suc k) is in
         let here = get_or-set_at known instruction other (number + 1) 0 same (omega (arith, within, same)) in
         let there = get_or_from_slice_get (set known instruction (number + 1)) other (suc k) 0 is in
         let number_is : number ≡ k = omega (arith, here, there) in
@@ -79,12 +83,7 @@ known-more tables names known instruction number has are = record {
         (subst (λ (n : ℕ). slice_get names number ≡ Some (instruction_place tables n)) (sym same) has)
     by other k is false test =
         let apart : other ≢ instruction = grind (arith, nat_tests) in
-        let within : other < length known =
-        omega (
-          arith,
-          slice_get_within (set known instruction (number + 1)) other (suc k) is,
-          length-set known instruction (number + 1),
-        ) in
+        let within = set-within known instruction other (number + 1) (suc k) is in
         let there : get_or known other 0 ≡ suc k =
         sym (get_or-set_other known instruction other (number + 1) 0 apart)
         ∙ get_or_from_slice_get (set known instruction (number + 1)) other (suc k) 0 is in

@@ -13,9 +13,17 @@ use Rattle.ht_trace.specs.StackFrames.{stack_frames}
 use Rattle.ht_trace.specs.TableState.{TableState}
 use Rattle.ht_trace.specs.declared.frame.FrameAt.{FrameAt}
 use Rattle.ht_trace.specs.declared.frame.Style.TheVariants.{Plain}
+use Rattle.hp_num.specs.Extends.{Extends}
+use Rattle.hp_num.proofs.Laws.{extends_trans}
 use Rattle.ht_print.specs.ReportGroups.{innermost, others, place_of}
 use Rattle.ht_print.specs.ReportLines.{frame_lines, left_line}
 use Rattle.ht_print.specs.ReportText.{suppressed_line}
+
+-- the lines of so many entries were written
+pub record AreWritten {X : Type 0} (old new : List ℕ) (lines : X → List ℕ) (entries : List X) (place : ℕ) : Type 0
+  where
+    pub written : new ≡ old ++ flat_map lines (take place entries)
+    pub kept : Extends old new
 
 -- lines of no text, and of one more
 pub frame_lines-none : (blanks : List ℕ) → frame_lines blanks [] ≡ []
@@ -40,6 +48,13 @@ three o p q r = simp append_assoc
 pub three-appended : (o a b c p q r : List ℕ) → a ≡ o ++ p → b ≡ a ++ q → c ≡ b ++ r → c ≡ o ++ (p ++ (q ++ r))
 three-appended o a b c p q r p_is q_is r_is =
     r_is ∙ ap (λ (xs : List ℕ). xs ++ r) (q_is ∙ ap (λ (xs : List ℕ). xs ++ q) p_is) ∙ three o p q r
+
+-- so many calls, each of which may append, keep what was there
+pub three-kept : (o a b c : List ℕ) → Extends o a → Extends a b → Extends b c → Extends o c
+three-kept o a b c p q r = extends_trans o a c p (extends_trans a b c q r)
+
+pub four-kept : (o a b c d : List ℕ) → Extends o a → Extends a b → Extends b c → Extends c d → Extends o d
+four-kept o a b c d p q r s = extends_trans o a d p (three-kept a b c d q r s)
 
 -- the texts of a stack by its frames
 pub texts-by : (tables : TableState) (stack : ℕ) (frames : List FrameAt) (first : FrameAt) (rest : List FrameAt)

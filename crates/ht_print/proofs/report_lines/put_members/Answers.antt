@@ -3,7 +3,6 @@ use Rattle.std.specs.Prelude.{codes}
 use Rattle.std.proofs.lemmas.Result.{on_ok_weaker}
 use Rattle.stack_trees.specs.StackTexts.{stack_texts}
 use Rattle.ht_trace.specs.declared.frame.Style.TheVariants.{Plain}
-use Rattle.hp_num.proofs.Laws.{extends_trans}
 use Rattle.ht_print.specs.declared.entry.Entry.{Entry}
 use Rattle.ht_print.specs.ReportLines.{member_lines, members_lines}
 use Rattle.ht_print.proofs.ReportLemmas.{shown-all}
@@ -20,13 +19,3 @@ returns-clause-appended c =
     c.each_member.invariant.written (omega arith) c.split_shown-left.ensures.shown c.split_shown-left.ensures.left
     added)
     c.put_left.ensures.appended
-
-pub returns-in_err-put_member-clause-kept : goal.returns-in_err-put_member-clause-kept
-returns-in_err-put_member-clause-kept c =
-    extends_trans c.args.out.now.items c.each_member.out.items c.put_member.new.out.items c.each_member.invariant.kept
-    c.put_member.ensures.kept
-
-pub returns-clause-kept : goal.returns-clause-kept
-returns-clause-kept c =
-    extends_trans c.args.out.now.items c.each_member.out.items c.put_left.new.out.items c.each_member.invariant.kept
-    c.put_left.ensures.kept

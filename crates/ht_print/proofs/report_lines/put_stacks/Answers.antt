@@ -3,7 +3,6 @@ use Rattle.std.specs.Prelude.{codes}
 use Rattle.std.proofs.lemmas.Result.{on_ok_weaker}
 use Rattle.stack_trees.specs.StackTexts.{stack_texts}
 use Rattle.ht_trace.specs.declared.frame.Style.TheVariants.{Plain}
-use Rattle.hp_num.proofs.Laws.{extends_trans}
 use Rattle.ht_print.specs.declared.entry.Entry.{Entry}
 use Rattle.ht_print.specs.ReportLines.{stack_lines, unmerged_lines}
 use Rattle.ht_print.proofs.ReportLemmas.{shown-all}
@@ -19,13 +18,3 @@ returns-clause-appended c =
     c.each_stack.stack-index c.args.layout.now.options.limit _
     c.each_stack.invariant.written (omega arith) c.split_shown-left.ensures.shown c.split_shown-left.ensures.left added)
     c.put_left.ensures.appended
-
-pub returns-in_err-put_stack-clause-kept : goal.returns-in_err-put_stack-clause-kept
-returns-in_err-put_stack-clause-kept c =
-    extends_trans c.args.out.now.items c.each_stack.out.items c.put_stack.new.out.items c.each_stack.invariant.kept
-    c.put_stack.ensures.kept
-
-pub returns-clause-kept : goal.returns-clause-kept
-returns-clause-kept c =
-    extends_trans c.args.out.now.items c.each_stack.out.items c.put_left.new.out.items c.each_stack.invariant.kept
-    c.put_left.ensures.kept

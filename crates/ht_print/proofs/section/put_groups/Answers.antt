@@ -76,13 +76,3 @@ returns-clause-appended c =
 
 pub returns-in_err-members_into-clause-kept : goal.returns-in_err-members_into-clause-kept
 returns-in_err-members_into-clause-kept c = c.each_group.invariant.kept
-
-pub returns-in_err-put_group-clause-kept : goal.returns-in_err-put_group-clause-kept
-returns-in_err-put_group-clause-kept c =
-    extends_trans c.args.out.now.items c.each_group.out.items c.put_group.new.out.items c.each_group.invariant.kept
-    c.put_group.ensures.kept
-
-pub returns-clause-kept : goal.returns-clause-kept
-returns-clause-kept c =
-    extends_trans c.args.out.now.items c.each_group.out.items c.put_left.new.out.items c.each_group.invariant.kept
-    c.put_left.ensures.kept

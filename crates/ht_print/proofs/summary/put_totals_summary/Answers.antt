@@ -1,14 +1,8 @@
-use Rattle.std.proofs.Common.{◌∙◌, ◌++◌, ap}
-use Rattle.std.proofs.lemmas.Result.{on_ok_weaker}
-use Rattle.ht_print.specs.declared.summary.Summary.{Summary}
-use Rattle.ht_print.specs.SummaryText.{count_lines, live_lines, summary_text}
+use Rattle.peak_costs.specs.PeakTotals.{StandsFor}
+use Rattle.ht_print.proofs.SummaryLemmas.{appended-for}
 use Rattle.ht_print.proofs.summary.put_totals_summary.Goals as goal
 
 pub returns-clause-appended : goal.returns-clause-appended
-unfolding summary_text
 returns-clause-appended c =
-    on_ok_weaker c.put.result
-    (λ put events stands. put
-    ∙ ap (λ (summary : Summary). c.args.out.now.items ++ (count_lines summary ++ live_lines summary))
-    (c.of_totals.ensures events stands))
+    appended-for (StandsFor c.args.totals.now) c.of_totals.result c.args.out.now c.put.new.out c.put.result c.of_totals.ensures
     c.put.ensures.appended
