@@ -1,4 +1,4 @@
-use Rattle.std.proofs.Common.{◌≡◌, ◌≤◌, ◌++◌, ◌∙◌, ℕ, List, Bool, true, false, length, ap, ap₂, sym, subst, arith}
+use Rattle.std.proofs.Common.{◌≡◌, ◌≤◌, ◌++◌, ◌∙◌, ℕ, List, Bool, true, false, length, ap, ap₂, sym, subst, arith, rules}
 use Rattle.record_book.specs.RecordedTrace.{recorded}
 use Rattle.record_book.specs.SummaryText.{rec_summary}
 use Rattle.heaprec_commands.specs.Recorded.{IsRecorded}
@@ -23,12 +23,7 @@ returns-then-summary c =
     (c.spelled_orders.ensures.summary job order order few (c.quiet_modules.ensures job.modules c.requires.modules)
     c.requires.all.under)
     c.requires.all c.requires.figures
-    (c.recorded_summaries.ensures job order
-    (record {
-      playable = c.threads-threads.ensures.playable;
-      modules = c.requires.modules;
-      under = c.requires.all.under;
-    })).summary)
+    (c.recorded_summaries.ensures job order (search rules)).summary)
 
 pub returns : goal.returns
 returns c =
@@ -41,9 +36,4 @@ returns c =
     (c.spelled_orders.ensures.trace job order few (c.quiet_modules.ensures job.modules c.requires.modules)
     c.requires.all.under)
     c.requires.all c.requires.figures
-    (c.recorded_summaries.ensures job order
-    (record {
-      playable = c.threads-threads.ensures.playable;
-      modules = c.requires.modules;
-      under = c.requires.all.under;
-    })).trace)
+    (c.recorded_summaries.ensures job order (search rules)).trace)
