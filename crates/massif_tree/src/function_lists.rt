@@ -28,26 +28,10 @@ pub fn is_ignored<A: Fn(&[u8]) -> bool, I: Fn(&[u8]) -> bool>(
 {
     own_frames_into(tables, stack, frames)?;
     let front = listed_front(tables, frames, alloc_fns);
-    match frames.get(front) {
-        Some(at) => Ok(is_listed(tables, at, ignore_fns)),
-        None => is_whole_ignored(tables, stack, alloc_fns, ignore_fns, frames),
+    if let Some(at) = frames.get(front) {
+        return Ok(is_listed(tables, at, ignore_fns));
     }
-}
-
-/// The same by all frames of the stack, which are read.
-fn is_whole_ignored<A: Fn(&[u8]) -> bool, I: Fn(&[u8]) -> bool>(
-    tables: &Tables,
-    stack: u32,
-    alloc_fns: &FrameTest<A>,
-    ignore_fns: &FrameTest<I>,
-    frames: &mut Vec<FrameAt>,
-) -> Result<bool, NoMemory>
-    requires held { stack ≤ length tables.now.nodes }
-    requires alloc_callable { A.IsAlwaysCallable alloc_fns.now.test }
-    requires ignore_callable { I.IsAlwaysCallable ignore_fns.now.test }
-    ensures ignored { IfOk result
-        (IsIgnoredBy A.Fn I.Fn alloc_fns.now ignore_fns.now tables.now stack) }
-{
+    // All of its own frames are allocation functions', so that those of the stacks that it is called from tell.
     tables.frames_into(stack, frames)?;
     let front = listed_front(tables, frames, alloc_fns);
     match frames.get(front) {
