@@ -1,5 +1,5 @@
 -- No generated trace has a fault.
-use Rattle.std.proofs.Common.{◌≡◌, ℕ, zero, suc, ◌^◌, ◌<◌, ◌≤◌, cond, List, [], ◌∷◌, ◌++◌, codes, decimal, false}
+use Rattle.std.proofs.Common.{rules, ◌≡◌, ℕ, zero, suc, ◌^◌, ◌<◌, ◌≤◌, cond, List, [], ◌∷◌, ◌++◌, codes, decimal, false}
 use Rattle.std.proofs.Common.{length, Option, Some, None, is_some, refl, ap, sym, subst, ◌∙◌, append-nil, arith}
 use Rattle.std.proofs.lemmas.Fmt.{hex_one_digit}
 use Rattle.hp_num.specs.Hexadecimal.{hexadecimal}
@@ -65,15 +65,7 @@ none_held version = record {
 -- the command is none of it
 held_with_command : (tables : TableState) (command : Option (List ℕ)) → Held 0 0 0 0 tables
     → Held 0 0 0 0 (record tables { command = command })
-held_with_command tables command held = record {
-  strings_are = held.strings_are;
-  instructions_are = held.instructions_are;
-  one_frame = held.one_frame;
-  nodes_are = held.nodes_are;
-  shallow = held.shallow;
-  infos_are = held.infos_are;
-  small = held.small;
-}
+held_with_command tables command held = search rules
 
 nothing_stands : StandsFor (tables_of []) []
 nothing_stands = record { tables_is = refl; no_fault = refl; first = λ none. tt }
