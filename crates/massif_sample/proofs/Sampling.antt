@@ -1,6 +1,6 @@
 -- What samples stand for, step by step.
 use Rattle.std.proofs.Common.{◌≡◌, ℕ, zero, suc, ◌+◌, ◌<◌, ◌≤◌, List, [], ◌∷◌, ◌++◌, length, true, false, refl, ap, sym}
-use Rattle.std.proofs.Common.{subst, ◌∙◌, inl, inr, arith}
+use Rattle.std.proofs.Common.{subst, ◌∙◌, inl, inr, arith, rules}
 use Rattle.std.specs.Prelude.{slice_get, max, Contains, Some, ◌⊎◌}
 use Rattle.std.proofs.lemmas.Bool.{cases_lt}
 use Rattle.cost_history.specs.declared.change.Change.{Change}
@@ -123,16 +123,8 @@ pub sampling-fronts :
     → length old.fronts ≤ length lists
     → IsSampling old names tables events made
     → IsSampling (record old { fronts = lists }) names tables events made
-sampling-fronts old lists names tables events made fronts more was = record {
-  stacks = was.stacks;
-  figures = was.figures;
-  array = was.array;
-  snapshots = was.snapshots;
-  going = was.going;
-  fronts = fronts;
-  told = was.told;
-  told_within = let within = was.told_within in omega arith;
-}
+sampling-fronts old lists names tables events made fronts more was =
+    let within : old.history.stacks ≤ length lists = (let few = was.told_within in omega arith) in search rules
 
 -- the samples with other changes that say the same wherever a tree is shown
 pub sampling-retold :
