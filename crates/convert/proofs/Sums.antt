@@ -73,7 +73,8 @@ pub new-added : (names : List (List ℕ)) (keys : List (Vec ℕ)) (sums : List �
 new-added names keys sums items key list number are held copied some absent =
     let item : Costed = item_at names list number in
     let F : List (List (List ℕ)) = folded_lists items in
-    let none : list_any (is_front item.texts) F ≡ false = sym (key-found names keys sums items list are held).0 ∙ absent in
+    let none : list_any (is_front item.texts) F ≡ false =
+    sym (key-found names keys sums items list are held).0 ∙ absent in
     let lists_are : folded_lists (items ++ item ∷ []) ≡ F ++ item.texts ∷ [] =
     lists-more items item some ∙ cond-false _ F (F ++ item.texts ∷ []) none in
     let mine =
@@ -108,7 +109,8 @@ pub old-added : (names : List (List ℕ)) (keys : List (Vec ℕ)) (sums new_sums
 old-added names keys sums new_sums items list number are held some present new_is =
     let item : Costed = item_at names list number in
     let F : List (List (List ℕ)) = folded_lists items in
-    let one : list_any (is_front item.texts) F ≡ true = sym (key-found names keys sums items list are held).0 ∙ present in
+    let one : list_any (is_front item.texts) F ≡ true =
+    sym (key-found names keys sums items list are held).0 ∙ present in
     let lists_are : folded_lists (items ++ item ∷ []) ≡ F =
     lists-more items item some ∙ cond-true _ F (F ++ item.texts ∷ []) one in
     record {
