@@ -12,7 +12,7 @@ use Rattle.json.specs.declared.value.Value.{Value, Array, Object}
 use Rattle.json.proofs.Trees.{view-Array, view-Object}
 use Rattle.json.proofs.Grammar.{value_is, value-begin_array, value-begin_object, left-parse_map, left_none}
 use Rattle.serde_json.specs.Data as spec
-use Rattle.serde_json.specs.Data.{Data, Items, Members, Num, array, object, no_items, no_members}
+use Rattle.serde_json.specs.Data.{Data, Num, array, object, no_items, no_members}
 use Rattle.serde_json.specs.Read.{of_json, converted, number_of}
 use Rattle.dhat_json.proofs.AheadTurns.{array_converted, object_converted}
 use Rattle.dhat_json.specs.Ahead.{value_ahead, items_ahead, members_ahead, behind}

@@ -1,6 +1,6 @@
 -- A value of which no check found anything says the profile that is read from it.
 use Rattle.std.proofs.Common.{◌≡◌, ℕ, suc, ◌-◌, ◌^◌, ◌<◌, List, [], ◌∷◌, ◌++◌, length, map, Bool, true, false, cond}
-use Rattle.std.proofs.Common.{Option, Some, None, Ok, refl, sym, ap, ◌∙◌, subst, ltb}
+use Rattle.std.proofs.Common.{Option, Some, None, Ok, refl, sym, ap, ◌∙◌, subst, ltb, rules}
 use Rattle.std.specs.List.{AllZip}
 use Rattle.std.proofs.lemmas.Bool.{ltb-true}
 use Rattle.std.proofs.lemmas.List.{length-map}
@@ -9,9 +9,8 @@ use Rattle.serde_json.specs.Find.{as_object}
 use Rattle.serde_json.specs.View.{items_of}
 use Rattle.dhat_json.specs.declared.fault.DhatFault.{DhatFault}
 use Rattle.dhat_json.specs.declared.fault.DhatFault.TheVariants.{TooMany}
-use Rattle.dhat_json.specs.declared.key.Key.TheVariants.{Mode, Verb, Bklt, Bkacc, Bu, Bsu, Bksu, Tu, Mtu, Tuth, Cmd}
-use Rattle.dhat_json.specs.declared.key.Key.TheVariants.{Pid, Te, Tg, Ftbl, Pps, Tb, Tbk, Tl, Mb, Mbk, Gb, Gbk, Eb, Ebk}
-use Rattle.dhat_json.specs.declared.key.Key.TheVariants.{Rb, Wb, Acc, Fs}
+use Rattle.dhat_json.specs.declared.key.Key.TheVariants.{Mode, Verb, Bklt, Bkacc, Bu, Bsu, Bksu, Tu, Mtu, Tuth}
+use Rattle.dhat_json.specs.declared.key.Key.TheVariants.{Cmd, Pid, Te, Tg, Ftbl, Pps, Tb, Tbk, Rb, Wb, Acc, Fs}
 use Rattle.dhat_json.specs.declared.profile.Dhat.{Dhat}
 use Rattle.dhat_json.specs.DhatFault.{Finding, life_findings, access_findings, pair_findings, frames_findings}
 use Rattle.dhat_json.specs.DhatFault.{point_findings, points_findings, head_findings, unit_findings, run_findings}
@@ -27,15 +26,7 @@ use Rattle.dhat_json.proofs.KindLemmas.{texts_stand, frames_stand, frames_below,
 life_says : (bklt : Bool) (point : ℕ) (d : Data) → AllNone (life_findings bklt point d)
     → IsPart (SaysLife d) bklt (part_in bklt (life_in d))
 life_says false point d h = tt
-life_says true point d h = record {
-  tl = whole_stands (Some point) Tl _ h.0;
-  mb = whole_stands (Some point) Mb _ h.1.0;
-  mbk = whole_stands (Some point) Mbk _ h.1.1.0;
-  gb = whole_stands (Some point) Gb _ h.1.1.1.0;
-  gbk = whole_stands (Some point) Gbk _ h.1.1.1.1.0;
-  eb = whole_stands (Some point) Eb _ h.1.1.1.1.1.0;
-  ebk = whole_stands (Some point) Ebk _ h.1.1.1.1.1.1.0;
-}
+life_says true point d h = search (rules, whole_stands)
 
 access_says : (bkacc : Bool) (point : ℕ) (d : Data) → AllNone (access_findings bkacc point d)
     → IsPart (SaysAccess d) bkacc (part_in bkacc (access_in d))

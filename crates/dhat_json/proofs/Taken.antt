@@ -12,9 +12,7 @@ use Rattle.serde_json.specs.Find.{as_object, as_array, as_str, as_bool}
 use Rattle.serde_json.specs.View.{items_of}
 use Rattle.dhat_json.specs.declared.fault.DhatFault.TheVariants.{WrongKind}
 use Rattle.dhat_json.specs.declared.key.Key.{Key}
-use Rattle.dhat_json.specs.declared.key.Key.TheVariants.{DhatFileVersion, Mode, Verb, Bklt, Bkacc, Bu, Bsu, Bksu, Tu}
-use Rattle.dhat_json.specs.declared.key.Key.TheVariants.{Mtu, Tuth, Cmd, Pid, Te, Tg, Ftbl, Pps, Tb, Tbk, Tl, Mb, Mbk}
-use Rattle.dhat_json.specs.declared.key.Key.TheVariants.{Gb, Gbk, Eb, Ebk, Rb, Wb, Acc, Fs}
+use Rattle.dhat_json.specs.declared.key.Key.TheVariants.{Bklt, Bkacc, Ftbl, Pps, Tb, Tbk, Fs}
 use Rattle.dhat_json.specs.declared.profile.Life.{Life}
 use Rattle.dhat_json.specs.declared.profile.Access.{Access}
 use Rattle.dhat_json.specs.declared.profile.Point.{Point}

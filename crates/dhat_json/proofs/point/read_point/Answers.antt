@@ -2,7 +2,6 @@ use Rattle.std.proofs.Common.{◌≡◌, ℕ, List, ◌++◌, Some, None, ◌∙
 use Rattle.serde_json.specs.Data.{Data}
 use Rattle.serde_json.specs.Find.{as_object}
 use Rattle.dhat_json.specs.DataOf.{data_of}
-use Rattle.dhat_json.specs.declared.fault.DhatFault.{DhatFault}
 use Rattle.dhat_json.specs.declared.key.Key.TheVariants.{Pps, Tb, Tbk}
 use Rattle.dhat_json.specs.declared.shape.Shape.{Shape}
 use Rattle.dhat_json.specs.DhatFault.{Finding, first_of, other_kind, pair_findings, life_findings, access_findings}

@@ -31,7 +31,8 @@ read-table c =
 
 pub returns-in_err-head-clause-read : goal.returns-in_err-head-clause-read
 returns-in_err-head-clause-read c =
-    passes_on _ _ _ _ _ c.from_residual.ensures.1 c.in_err-head.ensures.read (refused_in_head (data_of c.args.value.now) _)
+    passes_on _ _ _ _ _ c.from_residual.ensures.1 c.in_err-head.ensures.read
+    (refused_in_head (data_of c.args.value.now) _)
 
 pub returns-in_err-parts-clause-read : goal.returns-in_err-parts-clause-read
 returns-in_err-parts-clause-read c =
