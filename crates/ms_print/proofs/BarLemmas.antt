@@ -84,14 +84,16 @@ better-stays bar later high = by (ltb (rank_of later.mark) (rank_of bar.mark)) r
 
 -- the same of two snapshots, by their marks
 later-shows : (plot : Plot) (s snap : Snap) (first later : HeapTree) → s.mark ≡ first → snap.mark ≡ later
-    → rank_of first ≤ rank_of later → Some (bar_for plot snap) ≡ Some (better (Some (bar_for plot s)) (bar_for plot snap))
+    → rank_of first ≤ rank_of later
+    → Some (bar_for plot snap) ≡ Some (better (Some (bar_for plot s)) (bar_for plot snap))
 later-shows plot s snap first later first-is later-is low =
     ap Some (sym
     (better-later (bar_for plot s) (bar_for plot snap)
     (let a = ap rank_of first-is in let b = ap rank_of later-is in omega arith)))
 
 first-shows : (plot : Plot) (s snap : Snap) (first later : HeapTree) → s.mark ≡ first → snap.mark ≡ later
-    → rank_of later < rank_of first → Some (bar_for plot s) ≡ Some (better (Some (bar_for plot s)) (bar_for plot snap))
+    → rank_of later < rank_of first
+    → Some (bar_for plot s) ≡ Some (better (Some (bar_for plot s)) (bar_for plot snap))
 first-shows plot s snap first later first-is later-is high =
     ap Some (sym
     (better-stays (bar_for plot s) (bar_for plot snap)
@@ -118,7 +120,8 @@ picked-more plot snap Peak is peak detailed plain p d n = ap Some (sym (by (pick
     by None = refl
     by (Some bar) =
         better-later bar (bar_for plot snap) (let most = rank-most bar.mark in let rank = ap rank_of is in omega arith)
-picked-more plot snap Detailed is (Some s) detailed plain p d n = first-shows plot s snap Peak Detailed p is (omega arith)
+picked-more plot snap Detailed is (Some s) detailed plain p d n =
+    first-shows plot s snap Peak Detailed p is (omega arith)
 picked-more plot snap Detailed is None (Some s) plain p d n =
     later-shows plot s snap Detailed Detailed d is (omega arith)
 picked-more plot snap Detailed is None None (Some s) p d n = later-shows plot s snap Empty Detailed n is (omega arith)

@@ -10,8 +10,8 @@ use Rattle.ms_print.specs.Shown.{shown}
 use Rattle.ms_print.specs.declared.children.Pending.{Pending}
 use Rattle.ms_print.specs.Ends.{IsEnd, children_at, trees_at}
 use Rattle.ms_print.specs.TreesOf.{first_trees}
-use Rattle.ms_print.proofs.SplitLemmas.{IsSplit, left-next, split-kept, split-none, split-roots, split-same, split-small}
-use Rattle.ms_print.proofs.SplitLemmas.{split-small-all}
+use Rattle.ms_print.proofs.SplitLemmas.{IsSplit, left-next, split-kept, split-none, split-roots, split-same}
+use Rattle.ms_print.proofs.SplitLemmas.{split-small, split-small-all}
 use Rattle.ms_print.proofs.TreesOfLemmas.{children-at, passed-more, passed-none, passed-some}
 use Rattle.ms_print.proofs.children.split_children.Goals as goal
 use Rattle.ms_print.proofs.children.split_children.Goals.{After-each_child, then-is_small, else-is_small+in_ok-push}
