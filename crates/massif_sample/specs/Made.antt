@@ -35,11 +35,7 @@ abbrev pub OfTrees : TreeOptions → List (List (List ℕ)) → List Change → 
 OfTrees asked fronts changes P = (tables : TableState) (names : List (List ℕ))
     → AreFirstTexts tables names asked.depth fronts → P (told_tree asked tables names (length fronts) changes)
 
--- the lines are those of that tree
-abbrev pub IsTreeAt : TreeOptions → List (List (List ℕ)) → List Change → SnapEntry → List TreeLine → Type 0
-IsTreeAt asked fronts changes entry lines = OfTrees asked fronts changes (λ tree. lines ≡ tree entry)
-
--- and of the tree that is shown of an entry
+-- the lines are those of what is shown of that tree
 abbrev pub IsShownAt : TreeOptions → List (List (List ℕ)) → List Change → SnapEntry → List TreeLine → Type 0
 IsShownAt asked fronts changes entry lines = OfTrees asked fronts changes
     (λ tree. lines ≡ tree_of entry.kind (tree entry))

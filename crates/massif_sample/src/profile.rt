@@ -1,7 +1,7 @@
 //! The profile that the kept snapshots make.
 ghost use Rattle.std.specs.Prelude.{◌≡◌, IfOk};
 ghost use Rattle.massif_file.specs.Blanks.{without_blanks};
-ghost use Rattle.massif_sample.specs.Made.{AreMade, IsMade, IsShownAt, IsTreeAt};
+ghost use Rattle.massif_sample.specs.Made.{AreMade, IsMade, IsShownAt};
 ghost use Rattle.massif_sample.specs.Sampled.{description, shown_command};
 ghost use Rattle.massif_sample.specs.Snapshots.{mark_of};
 
@@ -100,26 +100,11 @@ fn shown_tree(
 {
     match entry.kind {
         Kind::Normal => Ok(Tree::new(alloc)),
-        Kind::Detailed => replayed_tree(alloc, entry, fronts, replay, options),
-        Kind::Peak => replayed_tree(alloc, entry, fronts, replay, options),
+        Kind::Detailed | Kind::Peak => {
+            replay.move_to(entry.place);
+            place_tree(alloc, fronts, options, entry.total, replay.costs())
+        }
     }
-}
-
-/// The tree of what stacks cost at the entry's place, or `NoMemory`.
-fn replayed_tree(
-    alloc: Global,
-    entry: &SnapEntry,
-    fronts: &mut CutFronts,
-    replay: &mut Replay,
-    options: &TreeOptions,
-) -> Result<Tree, NoMemory>
-    ensures tree { IfOk result
-        (IsTreeAt options.now fronts.old.whole replay.old.changes entry.now) }
-    ensures changes { replay.new.changes ≡ replay.old.changes }
-    ensures whole { fronts.new.whole ≡ fronts.old.whole }
-{
-    replay.move_to(entry.place);
-    place_tree(alloc, fronts, options, entry.total, replay.costs())
 }
 
 /// What a profile says of how it was made.

@@ -19,7 +19,7 @@ pub(crate) struct Running {
     /// The time of this place, in the chosen unit.
     pub(crate) time: u64,
     /// The greatest clock value so far, in milliseconds.
-    pub(crate) clock: u64,
+    clock: u64,
     /// Live bytes.
     pub(crate) heap: u64,
     /// Live bytes with what the heap adds to each block.
