@@ -19,37 +19,29 @@ use Rattle.record_scripts.proofs.scripts.Scripts.allocate.Goals as goal
 
 pub invariant_of-self-in_err-reserve_turn : goal.invariant_of-self-in_err-reserve_turn
 invariant_of-self-in_err-reserve_turn c =
-    scripts-same c.self.inside.stacks c.self.inside.scripts.items c.reserve_turn.new.scripts.items
-    (has_id c.self.inside.live) (has_id c.self.inside.live) c.self.inside.events c.self.inside.limit c.self.invariant
-    (c.reserve_turn.ensures.same c.self.inside.stacks) (c.reserve_turn.ensures.held _ c.self.invariant.held)
-    c.reserve_turn.ensures.count (λ id. refl)
+    scripts-same _ _ _ _ _ _ _ c.self.invariant (c.reserve_turn.ensures.same _)
+    (c.reserve_turn.ensures.held _ c.self.invariant.held) c.reserve_turn.ensures.count (λ id. refl)
 
 pub invariant_of-self-in_err-insert : goal.invariant_of-self-in_err-insert
 invariant_of-self-in_err-insert c =
-    scripts-same c.self.inside.stacks c.self.inside.scripts.items c.reserve_turn.new.scripts.items
-    (has_id c.self.inside.live) (has_id c.insert.new.self) c.self.inside.events c.self.inside.limit c.self.invariant
-    (c.reserve_turn.ensures.same c.self.inside.stacks) (c.reserve_turn.ensures.held _ c.self.invariant.held)
-    c.reserve_turn.ensures.count (λ id. c.in_err-insert.ensures.unchanged id)
+    scripts-same _ _ _ _ _ _ _ c.self.invariant (c.reserve_turn.ensures.same _)
+    (c.reserve_turn.ensures.held _ c.self.invariant.held) c.reserve_turn.ensures.count
+    (λ id. c.in_err-insert.ensures.unchanged id)
 
 pub invariant_of-self-in_default : goal.invariant_of-self-in_default
 invariant_of-self-in_default c =
     subst (λ (nodes : List Node). AreScripts nodes c.reserve_turn.new.scripts.items
     (has_id c.remove-in_default.new.self) c.self.inside.events c.self.inside.limit) (sym
     c.in_default.ensures.interned.unchanged)
-    (scripts-same c.self.inside.stacks c.self.inside.scripts.items c.reserve_turn.new.scripts.items
-    (has_id c.self.inside.live) (has_id c.remove-in_default.new.self) c.self.inside.events c.self.inside.limit
-    c.self.invariant
-    (c.reserve_turn.ensures.same c.self.inside.stacks) (c.reserve_turn.ensures.held _ c.self.invariant.held)
-    c.reserve_turn.ensures.count
+    (scripts-same _ _ _ _ _ _ _ c.self.invariant (c.reserve_turn.ensures.same _)
+    (c.reserve_turn.ensures.held _ c.self.invariant.held) c.reserve_turn.ensures.count
     (live-undone (has_id c.self.inside.live) (has_id c.insert.new.self) (has_id c.remove-in_default.new.self) c.args.id
     c.in_ok-insert.ensures.live c.remove-in_default.ensures.live
     (not-true (has_id c.self.inside.live c.args.id) (sym c.in_ok-insert.ensures.added ∙ c.if-not-branch.false))))
 
 pub invariant_of-self-then-not-branch : goal.invariant_of-self-then-not-branch
 invariant_of-self-then-not-branch c =
-    scripts-same c.self.inside.stacks c.self.inside.scripts.items c.reserve_turn.new.scripts.items
-    (has_id c.self.inside.live) (has_id c.insert.new.self) c.self.inside.events
-    c.self.inside.limit c.self.invariant (c.reserve_turn.ensures.same c.self.inside.stacks)
+    scripts-same _ _ _ _ _ _ _ c.self.invariant (c.reserve_turn.ensures.same _)
     (c.reserve_turn.ensures.held _ c.self.invariant.held) c.reserve_turn.ensures.count
     (live-there (has_id c.self.inside.live) (has_id c.insert.new.self) c.args.id
     c.in_ok-insert.ensures.live
@@ -58,9 +50,7 @@ invariant_of-self-then-not-branch c =
 
 pub invariant_of-self-then-self-lt1 : goal.invariant_of-self-then-self-lt1
 invariant_of-self-then-self-lt1 c =
-    scripts-same c.self.inside.stacks c.self.inside.scripts.items c.reserve_turn.new.scripts.items
-    (has_id c.self.inside.live) (has_id c.remove.new.self) c.self.inside.events
-    c.self.inside.limit c.self.invariant (c.reserve_turn.ensures.same c.self.inside.stacks)
+    scripts-same _ _ _ _ _ _ _ c.self.invariant (c.reserve_turn.ensures.same _)
     (c.reserve_turn.ensures.held _ c.self.invariant.held) c.reserve_turn.ensures.count
     (live-undone (has_id c.self.inside.live) (has_id c.insert.new.self)
     (has_id c.remove.new.self) c.args.id c.in_ok-insert.ensures.live

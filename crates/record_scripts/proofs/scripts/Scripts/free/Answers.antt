@@ -11,16 +11,12 @@ use Rattle.record_scripts.proofs.scripts.Scripts.free.Goals as goal
 
 pub invariant_of-self : goal.invariant_of-self
 invariant_of-self c =
-    scripts-same c.self.inside.stacks c.self.inside.scripts.items c.reserve_turn.new.scripts.items
-    (has_id c.self.inside.live) (has_id c.self.inside.live) c.self.inside.events
-    c.self.inside.limit c.self.invariant (c.reserve_turn.ensures.same c.self.inside.stacks)
+    scripts-same _ _ _ _ _ _ _ c.self.invariant (c.reserve_turn.ensures.same _)
     (c.reserve_turn.ensures.held _ c.self.invariant.held) c.reserve_turn.ensures.count (λ id. refl)
 
 pub invariant_of-self-then-not-remove : goal.invariant_of-self-then-not-remove
 invariant_of-self-then-not-remove c =
-    scripts-same c.self.inside.stacks c.self.inside.scripts.items c.reserve_turn.new.scripts.items
-    (has_id c.self.inside.live) (has_id c.remove.new.self) c.self.inside.events
-    c.self.inside.limit c.self.invariant (c.reserve_turn.ensures.same c.self.inside.stacks)
+    scripts-same _ _ _ _ _ _ _ c.self.invariant (c.reserve_turn.ensures.same _)
     (c.reserve_turn.ensures.held _ c.self.invariant.held) c.reserve_turn.ensures.count
     (live-absent (has_id c.self.inside.live) (has_id c.remove.new.self) c.args.id
     c.remove.ensures.live (sym c.remove.ensures.removed ∙ c.if-not-remove.true))

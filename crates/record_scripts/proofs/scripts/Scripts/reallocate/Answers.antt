@@ -16,20 +16,16 @@ use Rattle.record_scripts.proofs.scripts.Scripts.reallocate.Goals as goal
 
 pub invariant_of-self-in_err-reserve_turn : goal.invariant_of-self-in_err-reserve_turn
 invariant_of-self-in_err-reserve_turn c =
-    scripts-same c.self.inside.stacks c.self.inside.scripts.items c.reserve_turn.new.scripts.items
-    (has_id c.self.inside.live) (has_id c.self.inside.live) c.self.inside.events c.self.inside.limit c.self.invariant
-    (c.reserve_turn.ensures.same c.self.inside.stacks) (c.reserve_turn.ensures.held _ c.self.invariant.held)
-    c.reserve_turn.ensures.count (λ id. refl)
+    scripts-same _ _ _ _ _ _ _ c.self.invariant (c.reserve_turn.ensures.same _)
+    (c.reserve_turn.ensures.held _ c.self.invariant.held) c.reserve_turn.ensures.count (λ id. refl)
 
 pub invariant_of-self-in_err-node : goal.invariant_of-self-in_err-node
 invariant_of-self-in_err-node c =
     subst (λ (nodes : List Node). AreScripts nodes c.reserve_turn.new.scripts.items (has_id c.self.inside.live)
     c.self.inside.events c.self.inside.limit) (sym
     c.in_err-node.ensures.interned.unchanged)
-    (scripts-same c.self.inside.stacks c.self.inside.scripts.items c.reserve_turn.new.scripts.items
-    (has_id c.self.inside.live) (has_id c.self.inside.live) c.self.inside.events c.self.inside.limit c.self.invariant
-    (c.reserve_turn.ensures.same c.self.inside.stacks) (c.reserve_turn.ensures.held _ c.self.invariant.held)
-    c.reserve_turn.ensures.count (λ id. refl))
+    (scripts-same _ _ _ _ _ _ _ c.self.invariant (c.reserve_turn.ensures.same _)
+    (c.reserve_turn.ensures.held _ c.self.invariant.held) c.reserve_turn.ensures.count (λ id. refl))
 
 -- the scripts with the turn
 kept : (c : goal.After-self-1) → scripts_kept c.intern.new.self c.push_turn.new.scripts.items
