@@ -1,6 +1,6 @@
 -- One line of a group, and the step to the next group.
 use Rattle.std.proofs.Common.{◌≡◌, ℕ, suc, ◌+◌, ◌-◌, ◌<◌, ◌≤◌, cond, Bool, List, [], ◌∷◌, ◌++◌, codes, length, refl, ap}
-use Rattle.std.proofs.Common.{ap₂, sym, subst, ◌∙◌, inl, inr, length-append, arith}
+use Rattle.std.proofs.Common.{rules, ap₂, sym, subst, ◌∙◌, inl, inr, length-append, arith}
 use Rattle.std.proofs.lemmas.Bool.Decides.{eqb_tells}
 use Rattle.std.proofs.lemmas.List.FromFn.{length-map-range_with_len}
 use Rattle.trace_gen.specs.Sizes.{Sizes, sizes_of}
@@ -36,35 +36,26 @@ pub record HasLines (sizes : Sizes) (group following : Group) (line : ℕ → Li
   pub within : (next : ℕ) → next < sizes.stacks → IsWithin sizes group next
   pub begins : IsWithin sizes following 0
 
-has_lines : {sizes : Sizes} {group following : Group} {line : ℕ → List ℕ}
-    → ((next : ℕ)
-    → lines_left sizes group next ≡ lines_from line next (sizes.stacks - next) ++ lines_left sizes following 0)
-    → draws_before sizes group sizes.stacks ≡ draws_before sizes following 0
-    → ((next : ℕ) → events_before group next ≡ 0)
-    → events_before following 0 ≡ 0
-    → ((next : ℕ) → next < sizes.stacks → IsWithin sizes group next)
-    → IsWithin sizes following 0
-    → HasLines sizes group following line
-has_lines lines draws no_events none_follow within begins = record {
-  lines = lines;
-  draws = draws;
-  no_events = no_events;
-  none_follow = none_follow;
-  within = within;
-  begins = begins;
-}
-
 pub has_names : (sizes : Sizes) → 1 ≤ sizes.stacks → HasLines sizes Names Instructions name_line
-has_names sizes some = has_lines (λ next. refl) refl (λ next. refl) refl (λ next less. less) some
+has_names sizes some = search rules
 
 pub has_instructions : (sizes : Sizes) → 1 ≤ sizes.stacks → HasLines sizes Instructions Nodes instruction_line
-has_instructions sizes some = has_lines (λ next. refl) refl (λ next. refl) refl (λ next less. less) some
+has_instructions sizes some = search rules
 
 pub has_nodes : (sizes : Sizes) → 1 ≤ sizes.stacks → HasLines sizes Nodes Infos (node_line sizes)
-has_nodes sizes some = has_lines (λ next. refl) (omega arith) (λ next. refl) refl (λ next less. less) some
+has_nodes sizes some =
+    let drawn : draws_before sizes Nodes sizes.stacks ≡ draws_before sizes Infos 0 = omega arith in
+    search rules
 
 pub has_infos : (sizes : Sizes) → HasLines sizes Infos Events (info_line sizes)
-has_infos sizes = has_lines (λ next. refl) (omega arith) (λ next. refl) refl (λ next less. less) (omega arith)
+has_infos sizes = record {
+  lines = λ next. refl;
+  draws = omega arith;
+  no_events = λ next. refl;
+  none_follow = refl;
+  within = λ next less. less;
+  begins = omega arith;
+}
 
 -- one of its lines was made, and the generator stands behind it
 pub passed : (old : Generator) (state : ℕ) (group following : Group) (line : ℕ → List ℕ) (before now : List ℕ)
