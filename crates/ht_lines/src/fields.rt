@@ -7,7 +7,11 @@ ghost use Rattle.std.specs.List.{position};
 ghost use Rattle.hp_num.specs.ParsedHex.{parsed_hex};
 ghost use Rattle.ht_lines.specs.Fields.{KeepsNumbers, after_blanks, after_field, all_numbers, before_blank, field_ends, fields, first_field, from_blank, is_blank, number, numbers};
 
-use hp_num::parse_hex;
+use crate::text::field_ends;
+use hp_num::{hex_digit_value, parse_hex};
+
+/// The most digits of a number.
+const MOST_DIGITS: usize = 16;
 
 /// How many fields a text has, and whether each of them is a number.
 #[derive(Clone, Copy)]
@@ -50,8 +54,52 @@ pub fn next_number(text: &[u8]) -> Option<(u64, &[u8])>
     ensures all { IfSome result (λ found. KeepsNumbers text.now found.1.now) }
     ensures shorter { IfSome result (λ found. length found.1.now < length text.now) }
 {
-    let (field, after) = next_field(text)?;
-    Some((parse_hex(field).unwrap_or(0), after))
+    let (number, after) = next_hex(text)?;
+    Some((number.unwrap_or(0), after))
+}
+
+/// The number that the first field of a text is, where it is one, and what follows the field. `None` where there is no field.
+pub fn next_hex(text: &[u8]) -> Option<(Option<u64>, &[u8])>
+    ensures none { IfNone result (fields text.now ≡ []) }
+    ensures no_field { IfNone result (first_field text.now ≡ []) }
+    ensures some { IfSome result
+        (λ found. fields text.now ≡ first_field text.now ∷ fields found.1.now) }
+    ensures number { IfSome result (λ found. found.0 ≡ parsed_hex (first_field text.now)) }
+    ensures after { IfSome result (λ found. found.1.now ≡ after_field text.now) }
+    ensures shorter { IfSome result (λ found. length found.1.now < length text.now) }
+{
+    let text = skip_blanks(text);
+    if text.is_empty() {
+        return None;
+    }
+    if let Some((number, after)) = leading_number(text) {
+        return Some((Some(number), after));
+    }
+    let (field, after) = split_at_blank(text);
+    Some((parse_hex(field), after))
+}
+
+/// The number whose digits a text begins with, and what follows them, which is nothing or begins with a blank: one walk over
+/// the digits. `None` says nothing of the text.
+#[inline(always)]
+fn leading_number(text: &[u8]) -> Option<(u64, &[u8])>
+    ensures number { IfSome result (λ found. parsed_hex (before_blank text.now) ≡ Some found.0) }
+    ensures after { IfSome result (λ found. found.1.now ≡ from_blank text.now) }
+{
+    let mut number = 0;
+    let mut digits = 0;
+    'digits: while digits < MOST_DIGITS && digits < text.len() {
+        let Some(digit) = hex_digit_value(text[digits]) else {
+            break;
+        };
+        number = number * 16 + u64::from(digit);
+        digits += 1;
+    }
+    let (_, after) = text.split_at(digits);
+    if digits == 0 || !field_ends(after) {
+        return None;
+    }
+    Some((number, after))
 }
 
 /// Counts the fields of a text, and tests whether each is a number.
@@ -63,9 +111,9 @@ pub fn count_fields(text: &[u8]) -> FieldCount
     let mut count = 0;
     let mut all_numbers = true;
     let mut rest = text;
-    'fields: while let Some((field, after)) = next_field(rest) {
+    'fields: while let Some((number, after)) = next_hex(rest) {
         count += 1;
-        all_numbers = all_numbers && parse_hex(field).is_some();
+        all_numbers = all_numbers && number.is_some();
         rest = after;
     }
     FieldCount { count, all_numbers }

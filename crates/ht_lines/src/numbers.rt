@@ -8,7 +8,7 @@ ghost use Rattle.ht_lines.specs.Content.{info_line, node_line, resident_line, sy
 ghost use Rattle.ht_lines.specs.Reading.{allocation_of, both_numbers, clock_from, free_of, info_number, one_number, say, three_numbers, two_numbers, version_from, version_of, with_number};
 ghost use Rattle.ht_lines.specs.ItemContent.{Gives, HasTailInEach, IsWhole};
 
-use crate::fields::next_field;
+use crate::fields::{next_field, next_hex};
 use crate::item::{Form, Item, Malformed};
 use hp_num::parse_hex;
 
@@ -55,16 +55,22 @@ fn one_number_by_fields(rest: &[u8]) -> Result<u64, Malformed>
 pub fn two_numbers(rest: &[u8]) -> Result<(u64, u64), Malformed>
     ensures { result ≡ two_numbers (fields rest.now) }
 {
-    let Some((first, after)) = next_field(rest) else {
+    let Some((first, after)) = next_hex(rest) else {
         return Err(Malformed::MissingField);
     };
-    let Some((second, after)) = next_field(after) else {
+    let Some((second, after)) = next_hex(after) else {
         return Err(Malformed::MissingField);
     };
     if next_field(after).is_some() {
         return Err(Malformed::ExtraField);
     }
-    both_numbers(first, second)
+    let Some(first) = first else {
+        return Err(Malformed::BadField);
+    };
+    let Some(second) = second else {
+        return Err(Malformed::BadField);
+    };
+    Ok((first, second))
 }
 
 /// The numbers that two fields are.
