@@ -1,4 +1,3 @@
 mod Steps
 mod Live
 mod InstructionLine
-mod MadeLines

@@ -1,8 +1,9 @@
 -- One line of a group, and the step to the next group.
-use Rattle.std.proofs.Common.{◌≡◌, ℕ, suc, ◌+◌, ◌-◌, ◌<◌, ◌≤◌, cond, Bool, List, [], ◌∷◌, ◌++◌, codes, length, refl, ap}
+use Rattle.std.proofs.Common.{◌≡◌, ℕ, suc, ◌+◌, ◌-◌, ◌<◌, ◌≤◌, cond, Bool, true, false, List, [], ◌∷◌, ◌++◌, codes, length, refl, ap}
 use Rattle.std.proofs.Common.{rules, ap₂, sym, subst, ◌∙◌, inl, inr, length-append, arith}
 use Rattle.std.proofs.lemmas.Bool.Decides.{eqb_tells}
 use Rattle.std.proofs.lemmas.List.FromFn.{length-map-range_with_len}
+use Rattle.hp_num.specs.Hexadecimal.{hexadecimal}
 use Rattle.trace_gen.specs.Sizes.{Sizes, sizes_of}
 use Rattle.trace_gen.specs.declared.generator.Generator.{Generator}
 use Rattle.trace_gen.specs.declared.generator.Group.{Group}
@@ -10,7 +11,7 @@ use Rattle.trace_gen.specs.declared.generator.Group.TheVariants.{Version, Names,
 use Rattle.trace_gen.specs.Draws.{state_after}
 use Rattle.trace_gen.specs.PutLine.{PutsLine}
 use Rattle.trace_gen.specs.GeneratedTrace.{event_line, generated_lines, info_line, instruction_line, lines_from}
-use Rattle.trace_gen.specs.GeneratedTrace.{name_line, node_line}
+use Rattle.trace_gen.specs.GeneratedTrace.{move_line, name_line, node_line}
 use Rattle.trace_gen.specs.GeneratorState.{BlocksAre, IsAt, IsWithin, MakesLine, Stands, behind, draws_before}
 use Rattle.trace_gen.specs.GeneratorState.{events_before, events_left, infos_left, lines_left, lines_yet}
 
@@ -112,6 +113,12 @@ passed old state group following line before now has group_is at some state_is s
             put = put;
           })
     ]
+
+-- the line of an event is short
+pub short_event : (frees : Bool) (info : ℕ) → length (hexadecimal info) ≤ 16
+    → length (move_line (record { info = info; frees = frees })) ≤ 40
+short_event true info few = omega (arith, few)
+short_event false info few = omega (arith, few)
 
 -- all lines of all groups
 pub all_lines : (sizes : Sizes) → lines_left sizes Version 0 ≡ generated_lines sizes

@@ -1,18 +1,19 @@
 -- Where a generator stands: what it has drawn, which blocks are live, and which lines are yet to be
--- made. It gives the next line where the lines yet to be made are that line and those that then
--- are; and next lines likewise, as one text.
+-- made. It gives the next line, or the event that it says, where the lines yet to be made are that
+-- line and those that then are.
 use Rattle.std.specs.Prelude.{◌≡◌, ℕ, ◌+◌, ◌-◌, ◌*◌, ◌<◌, ◌≤◌, ◌==◌, List, [], ◌∷◌, ◌++◌, codes, length, slice_index_or}
-use Rattle.std.specs.Prelude.{All, Bool, true, false, if◌then◌else◌}
-use Rattle.hp_outside.specs.WholeLines.{IsLineText, text_of_lines}
+use Rattle.std.specs.Prelude.{Bool, true, false, if◌then◌else◌, Option, Some, None}
+use Rattle.hp_outside.specs.WholeLines.{text_of_lines}
 use Rattle.trace_gen.specs.Sizes.{Sizes, sizes_of}
+use Rattle.trace_gen.specs.declared.event.GeneratedEvent.{GeneratedEvent}
 use Rattle.trace_gen.specs.declared.generator.Generator.{Generator}
 use Rattle.trace_gen.specs.declared.generator.Group.{Group}
 use Rattle.trace_gen.specs.declared.generator.Group.TheVariants.{Version, Command, Module, Names, Instructions, Nodes}
 use Rattle.trace_gen.specs.declared.generator.Group.TheVariants.{Infos, Events}
 use Rattle.trace_gen.specs.Draws.{state_after}
-use Rattle.trace_gen.specs.Moves.{allocated, freed, moves}
+use Rattle.trace_gen.specs.Moves.{Move, allocated, freed, moves}
 use Rattle.trace_gen.specs.PutLine.{PutsLine}
-use Rattle.trace_gen.specs.GeneratedTrace.{event_line, info_line, instruction_line, lines_from, name_line, node_line}
+use Rattle.trace_gen.specs.GeneratedTrace.{event_line, info_line, instruction_line, lines_from, move_line, name_line, node_line}
 
 -- the lines from one of a group on
 abbrev pub events_left : Sizes → ℕ → List (List ℕ)
@@ -102,16 +103,22 @@ pub record MakesLine (old new : Generator) (before now : List ℕ) : Type 0 wher
   pub lines : lines_yet old ≡ line ∷ lines_yet new
   pub put : PutsLine before now line
 
--- the next lines were made, and are these bytes
-pub record MakesLines (old new : Generator) (now : List ℕ) : Type 0 where
-  pub at : IsAt new
-  pub lines : List (List ℕ)
-  pub split : lines_yet old ≡ lines ++ lines_yet new
-  pub text : now ≡ text_of_lines lines
-  pub texts : All IsLineText lines
-  pub short : length now ≤ 41 * length lines
-
 -- so it was, or there is none
 abbrev pub Gives : Generator → Generator → List ℕ → List ℕ → Bool → Type 0
 Gives old new before now true = MakesLine old new before now
 Gives old new before now false = (lines_yet old ≡ []) × (new ≡ old) × (now ≡ before)
+
+-- what an event says
+abbrev pub move_of : GeneratedEvent → Move
+move_of event = record { info = event.info; frees = event.frees }
+
+-- the next line is that of this event, and counts as made
+pub record DrawsEvent (old new : Generator) (event : GeneratedEvent) : Type 0 where
+  pub at : IsAt new
+  pub lines : lines_yet old ≡ move_line (move_of event) ∷ lines_yet new
+  pub short : length (move_line (move_of event)) ≤ 40
+
+-- so it is, or the next line isn't that of an event, or there is none
+abbrev pub Draws : Generator → Generator → Option GeneratedEvent → Type 0
+Draws old new (Some event) = DrawsEvent old new event
+Draws old new None = (new ≡ old) × (old.group ≡ Events → lines_yet old ≡ [])

@@ -3,18 +3,16 @@
 ghost use Rattle.std.specs.Prelude.{◌≡◌, ◌+◌, ◌<◌, ◌≤◌, ◌==◌, [], ◌∷◌, ◌&&◌, nat_lt, length, true, false, IfOk, IsTrue, OnOk};
 ghost use Rattle.trace_gen.specs.GeneratedTrace.{generated_lines, generated_text};
 ghost use Rattle.hp_outside.specs.WholeLines.{IsLineText};
-ghost use Rattle.trace_gen.specs.GeneratorState.{Gives, IsAt, MakesLine, MakesLines, Stands, behind, lines_left, lines_yet, text_left};
+ghost use Rattle.trace_gen.specs.GeneratorState.{Draws, DrawsEvent, Gives, IsAt, MakesLine, Stands, behind, lines_left, lines_yet, text_left};
 ghost use Rattle.trace_gen.specs.Sizes.{sizes_of};
 
 use crate::draws::{next_state, number_below};
+use crate::event::GeneratedEvent;
 use crate::lines::{put_event, put_instruction, put_name, put_pair};
 use crate::options::GeneratorOptions;
 use command_frame::TextMaker;
-use hp_num::{NoMemory, put_bytes};
+use hp_num::{NoMemory, hexadecimal_texts, put_bytes};
 use std::alloc::Global;
-
-/// So many bytes of lines are made at once.
-const PIECE: usize = 65_536;
 
 /// The groups of lines of a trace, in order. The first three have one line each.
 #[derive(Clone, Copy)]
@@ -78,33 +76,27 @@ impl Generator {
             Group::Instructions => self.instruction(line)?,
             Group::Nodes => self.node(line)?,
             Group::Infos => self.info(line)?,
-            Group::Events => {
-                if self.next == self.options.events {
-                    return Ok(false);
-                }
-                self.event(line)?
-            }
+            Group::Events => return self.event(line),
         }
         Ok(true)
     }
 
-    /// The next lines, each with its line feed, in place of what `text` held: as many as give 64 KiB or more, or all that
-    /// are left. `NoMemory` where memory is wanting; the generator is then of no use, and `text` may hold anything.
-    pub fn next_lines(&mut self, text: &mut Vec<u8>) -> Result<(), NoMemory>
+    /// Draws the event of the next line, which `line` would make of it. It takes no memory. `None` exactly where the next line
+    /// is another or no line is left; then it draws nothing.
+    /// A loop over events has all of it in its body.
+    #[inline(always)]
+    pub fn next_event(&mut self) -> Option<GeneratedEvent>
         requires at { IsAt self.old }
-        ensures made { OnOk result (MakesLines self.old self.new text.new.items) }
-        ensures all { OnOk result (length text.new.items < 65536 → lines_yet self.new ≡ []) }
-        ensures most { OnOk result (length text.new.items ≤ 65576) }
+        ensures { Draws self.old self.new result }
     {
-        text.clear();
-        'lines: while text.len() < PIECE {
-            match self.line(text) {
-                Ok(true) => {}
-                Ok(false) => return Ok(()),
-                Err(NoMemory) => return Err(NoMemory),
-            }
+        match self.group {
+            Group::Events => {}
+            _ => return None,
         }
-        Ok(())
+        if self.next == self.options.events {
+            return None;
+        }
+        Some(self.draw_event())
     }
 
     fn head(&mut self, text: &[u8], following: Group, line: &mut Vec<u8>) -> Result<(), NoMemory>
@@ -185,23 +177,43 @@ impl Generator {
         }
     }
 
+    /// The line of the next event, where there is one.
+    fn event(&mut self, line: &mut Vec<u8>) -> Result<bool, NoMemory>
+        requires at { IsAt self.old }
+        requires group { self.old.group ≡ Group.Events }
+        ensures made { IfOk result
+            (λ more. Gives self.old self.new line.old.items line.new.items more) }
+    {
+        match self.next_event() {
+            Some(event) => {
+                put_event(line, event.frees, u64::from(event.info))?;
+                Ok(true)
+            }
+            None => Ok(false),
+        }
+    }
+
     /// The next event.
-    fn event(&mut self, line: &mut Vec<u8>) -> Result<(), NoMemory>
+    #[inline(always)]
+    fn draw_event(&mut self) -> GeneratedEvent
         requires at { IsAt self.old }
         requires group { self.old.group ≡ Group.Events }
         requires some { self.old.next < self.old.options.events }
-        ensures made { OnOk result (MakesLine self.old self.new line.old.items line.new.items) }
+        ensures { DrawsEvent self.old self.new result }
     {
+        hexadecimal_texts();
         self.state = next_state(self.state);
         let info = number_below(self.options.stacks, self.state);
         self.state = next_state(self.state);
         let kind = number_below(2, self.state);
         let blocks = self.live[info as usize];
         let frees = is_free(kind, blocks);
-        put_event(line, frees, info)?;
         self.live[info as usize] = blocks_behind(blocks, frees);
         self.next += 1;
-        Ok(())
+        GeneratedEvent {
+            frees,
+            info: info as u32,
+        }
     }
 }
 

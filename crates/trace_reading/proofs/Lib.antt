@@ -1,4 +1,4 @@
 pub mod Laws
 mod ReadingLemmas
 mod EventLemmas
-mod TextLemmas
+mod InfoEvents

@@ -1,4 +1,5 @@
 pub mod TraceFault
+pub mod EventText
 pub mod TraceReport
 pub mod Following
 pub mod PeaksView

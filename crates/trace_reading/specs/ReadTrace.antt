@@ -8,15 +8,13 @@ use Rattle.ht_trace.specs.TableState.{TableState}
 use Rattle.ht_trace.specs.declared.step.Step.{Step}
 use Rattle.command_frame.specs.Taker.{Tells}
 use Rattle.command_frame.specs.declared.taker.LineRefusal.{LineRefusal}
-use Rattle.command_frame.specs.declared.taker.LineRefusal.TheVariants.{NoMemory}
-use Rattle.hp_outside.specs.Lines.{lines_of}
 use Rattle.trace_reading.specs.declared.fault.TraceFault.{TraceFault}
 use Rattle.trace_reading.specs.declared.fault.TraceFault.TheVariants.{Event as event}
 use Rattle.trace_reading.specs.declared.trace.Trace.{Trace}
 use Rattle.trace_reading.specs.Following.{Following}
 use Rattle.trace_reading.specs.Reading as reading
 use Rattle.trace_reading.specs.TraceFault.{told}
-use Rattle.trace_reading.specs.TraceReport.{EventFaults, HaveNoFault, content_fault, end_fault, fault_among}
+use Rattle.trace_reading.specs.TraceReport.{EventFaults, content_fault, end_fault, fault_among}
 use Rattle.trace_reading.specs.TraceReport.{patterns_before}
 
 abbrev pub measure_of : {F : Type 0} → (F → Following) → Trace F → ℕ
@@ -40,36 +38,12 @@ abbrev pub HasReadFirst : {F : Type 0} → EventFaults → (F → Following) →
 HasReadFirst faults view old new ready answer =
     reading.HasReadFirst faults old.tables (view old.follower) (view new.follower) ready answer
 
-abbrev pub HasReadTo : {F : Type 0} → EventFaults → (F → Following) → Trace F → Trace F → List ℕ
-    → List ℕ → Type 0
-HasReadTo faults view old new text left =
-    reading.HasReadTo faults old.tables (view old.follower) new.tables (view new.follower) text
-    left
-
-abbrev pub HasReadOne : {F : Type 0} → EventFaults → (F → Following) → Trace F → Trace F → List ℕ
-    → List ℕ → Type 0
-HasReadOne faults view old new text left =
-    reading.HasReadOne faults old.tables (view old.follower) new.tables (view new.follower) text
-    left
-
-abbrev pub HasReadText : {F : Type 0} → EventFaults → (F → Following) → Trace F → Trace F → List ℕ
-    → Type 0
-HasReadText faults view old new text =
-    reading.HasReadText faults old.tables (view old.follower) new.tables (view new.follower) text
-
 -- a refusal of the next line tells its fault
 abbrev pub RefusesLine : {F : Type 0} → EventFaults → (F → Following) → Trace F → List ℕ
     → LineRefusal TraceFault → Type 0
 RefusesLine faults view trace line refusal =
     (patterns lines : List (List ℕ)) → HasRead view trace patterns lines
     → Tells told refusal (content_fault faults patterns lines line)
-
--- a refusal of a text of lines without a fault is want of memory
-abbrev pub RefusesText : {F : Type 0} → EventFaults → (F → Following) → Trace F → List ℕ
-    → LineRefusal TraceFault → Type 0
-RefusesText faults view trace text refusal =
-    (patterns lines : List (List ℕ)) → HasRead view trace patterns lines
-    → HaveNoFault faults patterns lines (lines_of text) → refusal ≡ NoMemory
 
 -- the trace is sound, and its tables hold so many patterns that were given before the first line
 pub record IsReady {F : Type 0} (view : F → Following) (trace : Trace F) (given : ℕ) : Type 0 where

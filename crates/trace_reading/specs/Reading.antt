@@ -1,9 +1,7 @@
 -- Lines were read behind patterns where the tables stand for them, after texts of suppressions that
 -- have those patterns, and the follower stands for their events. One line, also that of an event at
--- the front of bytes, and the lines of a text were read where they have no fault and stand behind
--- all that was read before.
-use Rattle.std.specs.Prelude.{◌≡◌, ℕ, ◌+◌, ◌*◌, ◌^◌, ◌<◌, ◌≤◌, List, [], ◌∷◌, ◌++◌, length, None, Option, unwrap_or}
-use Rattle.hp_outside.specs.Lines.{lines_of}
+-- the front of bytes, was read where it has no fault and stands behind all that was read before.
+use Rattle.std.specs.Prelude.{◌≡◌, ℕ, ◌+◌, ◌*◌, ◌^◌, ◌≤◌, List, [], ◌∷◌, ◌++◌, length, None, Option, unwrap_or}
 use Rattle.live_ledger.specs.declared.event.Event.{Event}
 use Rattle.ht_trace.specs.LedgerFits.{IsBeside}
 use Rattle.ht_trace.specs.Pattern.{patterns_of}
@@ -12,7 +10,7 @@ use Rattle.ht_trace.specs.TableState.{TableState}
 use Rattle.ht_trace.specs.TraceEvents.{events}
 use Rattle.command_frame.specs.Batch.{TakesFirst}
 use Rattle.trace_reading.specs.Following.{Following}
-use Rattle.trace_reading.specs.TraceReport.{EventFaults, HaveNoFault, content_fault, trace_report}
+use Rattle.trace_reading.specs.TraceReport.{EventFaults, content_fault, trace_report}
 
 -- what the lines that were read take at least
 abbrev pub measure_of : TableState → Following → ℕ
@@ -64,34 +62,3 @@ pub record HasReadFirst (faults : EventFaults) (tables : TableState) (old new : 
   pub taken : (patterns : List (List ℕ)) (text : List (List ℕ) → List ℕ) (output : List ℕ)
       → TakesFirst (trace_report faults patterns text) (HasRead tables old patterns)
       (HasRead tables new patterns) ready output output answer
-
--- all lines of a text but those of what is left of it were read without a fault, behind all lines that were read before
-pub record HasReadTo (faults : EventFaults) (tables : TableState) (follower : Following)
-    (grown : TableState) (grown_follower : Following) (text left : List ℕ) : Type 0 where
-  pub sound : IsSound grown grown_follower
-  pub lines : List (List ℕ)
-  pub split : lines_of text ≡ lines ++ lines_of left
-  pub read : (patterns earlier : List (List ℕ)) → HasRead tables follower patterns earlier
-      → HasRead grown grown_follower patterns (earlier ++ lines)
-  pub good : (patterns earlier : List (List ℕ)) → HasRead tables follower patterns earlier
-      → HaveNoFault faults patterns earlier lines
-
--- the first line of a text was read, so that less is left of it; and what is left has room with it
-pub record HasReadOne (faults : EventFaults) (tables : TableState) (follower : Following)
-    (grown : TableState) (grown_follower : Following) (text left : List ℕ) : Type 0 where
-  pub read : HasReadTo faults tables follower grown grown_follower text left
-  pub fewer : length left < length text
-  pub measure : measure_of grown grown_follower + length left
-      ≤ measure_of tables follower + length text + 1
-  pub more : 0 < length left → measure_of grown grown_follower + length left
-      ≤ measure_of tables follower + length text
-
--- all lines of a text were read without a fault, behind all lines that were read before
-pub record HasReadText (faults : EventFaults) (tables : TableState) (follower : Following)
-    (grown : TableState) (grown_follower : Following) (text : List ℕ) : Type 0 where
-  pub sound : IsSound grown grown_follower
-  pub measure : measure_of grown grown_follower ≤ measure_of tables follower + length text + 1
-  pub read : (patterns earlier : List (List ℕ)) → HasRead tables follower patterns earlier
-      → HasRead grown grown_follower patterns (earlier ++ lines_of text)
-  pub good : (patterns earlier : List (List ℕ)) → HasRead tables follower patterns earlier
-      → HaveNoFault faults patterns earlier (lines_of text)

@@ -1,7 +1,6 @@
 -- What a command makes of the lines of a trace: patterns of suppressions may be given before them,
 -- the tables judge a line, and then, by the tables with it, the ledger or what else follows the
 -- events judges its event; a text of the patterns and the lines is written once all were read.
--- Lines have no fault where none has one after those before it.
 use Rattle.std.specs.Prelude.{ℕ, List, [], ◌∷◌, ◌++◌, Option, Some, None, take}
 use Rattle.std.specs.Option.{option_map, option_or}
 use Rattle.live_ledger.specs.declared.event.Event.{Event}
@@ -13,7 +12,6 @@ use Rattle.ht_trace.specs.StepOf.{event_of, step_of}
 use Rattle.ht_trace.specs.TableState.{TableState, tables_of}
 use Rattle.ht_trace.specs.TraceEvents.{events}
 use Rattle.ht_trace.specs.TraceLists as lists
-use Rattle.command_frame.specs.Batch.{AreGood}
 use Rattle.command_frame.specs.Plan.{Plan, one_file}
 use Rattle.command_frame.specs.Report.{Report, Writes}
 use Rattle.command_frame.specs.Told.{Told}
@@ -64,10 +62,6 @@ trace_report faults patterns text = record {
   gains = λ earlier line. [];
   verdict = λ lines. Writes (text lines);
 }
-
--- none of these lines has a fault after the earlier ones and those before it
-abbrev pub HaveNoFault : EventFaults → List (List ℕ) → List (List ℕ) → List (List ℕ) → Type 0
-HaveNoFault faults patterns = AreGood (trace_report faults patterns (λ lines. []))
 
 -- one trace is read, for which no suppressions are given; its events have the ledger's faults
 abbrev pub trace_plan : List ℕ → (List (List ℕ) → List ℕ) → Plan

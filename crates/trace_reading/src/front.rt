@@ -41,7 +41,8 @@ pub fn line_at_front(ledger: &TotalsLedger, ready: &[u8]) -> Option<ReadLine>
     })
 }
 
-fn event_of_info(kind: EventKind, info: u32, stack: u32, size: u64) -> Event
+/// The event of an info, with its stack and size.
+pub fn event_of_info(kind: EventKind, info: u32, stack: u32, size: u64) -> Event
     ensures { result ≡ event_of_info kind info (record { stack = stack; size = size }) }
 {
     match kind {

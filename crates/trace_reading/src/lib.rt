@@ -6,7 +6,7 @@
 //! - `Trace` keeps `Tables` and, grown step by step beside them, what follows the events (`Follower`): the tables stand for the
 //!   lines, behind the texts of suppressions that were given before, and the follower for their events (`specs/Reading`).
 //!   `line` takes one line, with the first fault that it has; `front` takes the line of an event at the front of bytes, where
-//!   nothing about it is in doubt; `read_text` takes all lines of a text in memory in these two ways.
+//!   nothing about it is in doubt; `event` takes the line of an event of an info without its text.
 //! - `Follower` is what is kept of the events: of a follower contracts see its ledger, the lists of events that it stands for
 //!   and what always holds of it (`specs/Following`), and the fault of each event. `Peaks` are one, and `PeakTotals` are, which keep no
 //!   figure of a stack; a follower that keeps more beside the tables stands in a crate above.
@@ -23,19 +23,19 @@
 //! | File | Does |
 //! |---|---|
 //! | `follower.rt`, `peaks.rt`, `totals.rt` | what follows the events of a trace; peaks, and totals with their peak alone |
-//! | `trace.rt`, `front.rt`, `text.rt` | one line into tables and follower; the line of an event at the front of bytes; a text |
+//! | `trace.rt`, `front.rt`, `event.rt` | one line into tables and follower; that of an event: at the front of bytes; without its text |
 //! | `trace_writer.rt`, `trace_reader.rt`, `trace_run.rt` | what is written of a trace; its taker; a run over one |
 //! | `suppressions.rt`, `suppressed_trace.rt` | a suppressions file, and a trace behind it |
 //! | `fault.rt` | faults of a trace, as told |
 #![tactic(auto)]
 
+mod event;
 mod fault;
 mod follower;
 mod front;
 mod peaks;
 mod suppressed_trace;
 mod suppressions;
-mod text;
 mod totals;
 mod trace;
 mod trace_reader;

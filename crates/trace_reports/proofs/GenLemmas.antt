@@ -11,7 +11,7 @@ use Rattle.peak_costs.specs.PeakTotals.{PeakTotalsState}
 use Rattle.ht_trace.specs.TraceEvents.{events}
 use Rattle.sound_traces.specs.NoFault.{HasNoFault, IsGood, event_fault}
 use Rattle.trace_gen.specs.declared.generator.Generator.{Generator}
-use Rattle.trace_gen.specs.GeneratorState.{MakesLines, lines_yet}
+use Rattle.trace_gen.specs.GeneratorState.{IsAt, lines_yet}
 use Rattle.trace_reading.specs.declared.fault.TraceFault.TheVariants.{Line, Event as in_ledger}
 use Rattle.trace_reading.specs.declared.trace.Trace.{Trace}
 use Rattle.trace_reading.specs.TotalsView.{totals_view}
@@ -45,61 +45,52 @@ line_good earlier line good =
     (sym (same_fault (tables_behind [] (earlier ++ line ∷ [])) (events earlier) (event_of (step_of earlier line)))
     ∙ good.1)
 
-front_good : (earlier lines more : List (List ℕ)) → HasNoFault earlier (lines ++ more)
-    → HaveNoFault ledger_faults [] earlier lines
-front_good earlier [] more good = tt
-front_good earlier (line ∷ lines) more good =
-    (line_good earlier line good.0, front_good (earlier ++ line ∷ []) lines more good.1)
+module _ (old : Trace PeakTotalsState) (before after : Generator) (lines : List (List ℕ)) (line : List ℕ)
+    (taken : HasTaken old before lines) (next : lines_yet before ≡ line ∷ lines_yet after) (short : length line ≤ 40) where
+  good : HasNoFault taken.taken (line ∷ lines_yet after)
+  good = subst (HasNoFault taken.taken) next taken.no_fault
 
-back_good : (earlier lines more : List (List ℕ)) → HasNoFault earlier (lines ++ more)
-    → HasNoFault (earlier ++ lines) more
-back_good earlier [] more good = subst (λ before. HasNoFault before more) (sym (append-nil earlier)) good
-back_good earlier (line ∷ lines) more good =
-    subst (λ before. HasNoFault before more) (append_assoc earlier (line ∷ []) lines)
-    (back_good (earlier ++ line ∷ []) lines more good.1)
-
-module _ (old : Trace PeakTotalsState) (before after : Generator) (lines : List (List ℕ)) (text : List ℕ)
-    (taken : HasTaken old before lines) (made : MakesLines before after text) where
-  made_good : HasNoFault taken.taken (made.lines ++ lines_yet after)
-  made_good = subst (HasNoFault taken.taken) made.split taken.no_fault
-
-  lines_are : lines_of text ≡ made.lines
-  lines_are = lines_of-whole text made.lines made.text made.texts
-
-  fewer : length (lines_yet before) ≡ length made.lines + length (lines_yet after)
-  fewer = ap length made.split ∙ length-append made.lines (lines_yet after)
-
-  -- the next lines have no fault
-  pub next_good : HaveNoFault ledger_faults [] taken.taken (lines_of text)
-  next_good =
-      subst (HaveNoFault ledger_faults [] taken.taken) (sym lines_are)
-      (front_good taken.taken made.lines (lines_yet after) made_good)
-
-  -- and they were read, where there are any
-  pub next_taken : (new : Trace PeakTotalsState) → 0 < length text → HasReadText ledger_faults totals_view old new text
-      → HasTaken new after lines
-  next_taken new some read = record {
-    at = made.at;
-    sound = read.sound;
-    taken = taken.taken ++ made.lines;
-    read =
-        subst (λ more. HasRead totals_view new [] (taken.taken ++ more)) lines_are
-        (read.read [] taken.taken taken.read);
-    split =
-        taken.split
-        ∙ (ap (λ more. taken.taken ++ more) made.split ∙ sym (append_assoc taken.taken made.lines (lines_yet after)));
-    no_fault = back_good taken.taken made.lines (lines_yet after) made_good;
-    room = omega (arith, read.measure, made.short, fewer, taken.room, some);
+  -- the next line may be read
+  pub next_may : MayReadLine old line
+  next_may = record {
+    sound = taken.sound;
+    earlier = taken.taken;
+    read = taken.read;
+    good = line_good taken.taken line good.0;
+    short = short;
+    room = omega (arith, taken.room);
   }
 
-  -- no line is left
-  pub none_left : length text ≡ 0 → lines_yet after ≡ [] → lines ≡ taken.taken
-  none_left none all =
-      let made_none : made.lines ≡ [] = no_lines made.lines (omega (arith, none, ap length made.text)) in
-      taken.split
-      ∙ (ap (λ more. taken.taken ++ more) (made.split ∙ ap₂ (λ front back. front ++ back) made_none all)
-      ∙ append-nil taken.taken)
-    where
-      no_lines : (made : List (List ℕ)) → length (text_of_lines made) ≡ 0 → made ≡ []
-      no_lines [] none = refl
-      no_lines (line ∷ more) none = absurd (omega (arith, none, length-append line (10 ∷ text_of_lines more)))
+  -- and once it was, it is one of those that were taken
+  pub next_taken : (new : Trace PeakTotalsState) → IsAt after → ReadsLine old new line → HasTaken new after lines
+  next_taken new at read = record {
+    at = at;
+    sound = read.sound;
+    taken = taken.taken ++ line ∷ [];
+    read = read.read [] taken.taken taken.read;
+    split =
+        taken.split
+        ∙ (ap (λ more. taken.taken ++ more) next ∙ sym (append_assoc taken.taken (line ∷ []) (lines_yet after)));
+    no_fault = good.1;
+    room = omega (arith, read.measure, short, ap length next, taken.room);
+  }
+
+-- where no line is left, all were taken
+pub none_left : (trace : Trace PeakTotalsState) (generator : Generator) (lines : List (List ℕ))
+    (taken : HasTaken trace generator lines) → lines_yet generator ≡ [] → lines ≡ taken.taken
+none_left trace generator lines taken none =
+    taken.split ∙ (ap (λ more. taken.taken ++ more) none ∙ append-nil taken.taken)
+
+-- the text of a line is its bytes but for the line feed
+pub without_feed : (text line : List ℕ) → text ≡ line ++ (10 ∷ []) → take (length text - 1) text ≡ line
+without_feed text line is =
+    let count : length text - 1 ≡ length line = omega (arith, ap length is, length-append line (10 ∷ [])) in
+    ap₂ take count is ∙ take-append_seam line (10 ∷ [])
+
+-- a refusal of a line without a fault tells none
+pub refuses_none : (trace : Trace PeakTotalsState) (line : List ℕ) (may : MayReadLine trace line) (fault : TraceFault)
+    → RefusesLine ledger_faults totals_view trace line (Fault fault) → ⊥
+refuses_none trace line may fault refuses =
+    let found = refuses [] may.earlier may.read in
+    let clash : None ≡ Some (told fault) = sym may.good ∙ found in
+    absurd (cc)

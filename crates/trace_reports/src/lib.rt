@@ -6,7 +6,7 @@
 //! whole text by the lines of the files, and the first fault of each. The first three are writers of a trace (`TraceWriter`),
 //! `summary` of one whose totals alone are kept; `interpret` has takers of its own, which write each line's interpretation while
 //! they read. `run_gen` writes a generated trace while it is made, and `run_gen_summary` gives the summary of one, whose lines are
-//! read as they are made.
+//! read as they are made, and those of events by what they say.
 //!
 //! `proofs/Laws` has what callers may cite. The tests are runs of the commands, in the crate `commands_tests`.
 //!
@@ -14,7 +14,7 @@
 //! |---|---|
 //! | `summary_run.rt`, `print_run.rt`, `flame_run.rt` | these commands: the writer, and a run over one trace |
 //! | `interpret_run.rt`, `interpret_reader.rt` | a run of `interpret`; its two takers |
-//! | `gen_run.rt`, `gen_summary.rt` | a generated trace; the summary of the lines as they are made |
+//! | `gen_run.rt`, `gen_summary.rt` | a generated trace; the summary of one while it is made |
 //! | `symbol_file_fault.rt` | faults of tables of symbols, as told |
 #![tactic(auto)]
 

@@ -4,12 +4,11 @@ use Rattle.std.proofs.lemmas.Grind.{get_or_default_zero}
 use Rattle.trace_gen.specs.Draws.{draw, next_state, number_below, state_after}
 use Rattle.trace_gen.specs.Moves.{Move, allocated, freed, moves, next_move}
 use Rattle.trace_gen.specs.GeneratedTrace.{event_line, move_line}
-use Rattle.trace_gen.specs.PutLine.{PutsLine}
 use Rattle.trace_gen.specs.Sizes.{sizes_of}
 use Rattle.trace_gen.specs.GeneratorState.{Stands, events_left, lines_left, lines_yet}
-use Rattle.trace_gen.proofs.Steps.{one_line}
+use Rattle.trace_gen.proofs.Steps.{one_line, short_event}
 use Rattle.trace_gen.proofs.Live.{drawn, few_blocks, has_block, moved}
-use Rattle.trace_gen.proofs.generator.Generator.event.Goals as goal
+use Rattle.trace_gen.proofs.generator.Generator.draw_event.Goals as goal
 
 pub blocks_behind-requires-clause-few : goal.blocks_behind-requires-clause-few
 blocks_behind-requires-clause-few c =
@@ -67,18 +66,17 @@ returns c =
     let left : lines_yet old ≡ event_line sizes old.next ∷ events_left sizes (old.next + 1) =
     ap (λ g. lines_left sizes g old.next) c.requires.group ∙ one_line (event_line sizes) old.next sizes.events some in
     record {
-      made = record {
-        at =
-            subst (λ group. Stands sizes group (old.next + 1) second (slice_set old.live.items info new))
-            (sym c.requires.group)
-            (moved sizes old.next old.state second old.live.items info new frees stands some info_is frees_is below
-            (λ kind. c.blocks_behind.ensures.allocated kind ∙ ap (λ n. n + 1) blocks)
-            (λ kind. c.blocks_behind.ensures.freed kind ∙ blocks) second_is c.next_state-self-2.ensures.small);
-        line = event_line sizes old.next;
-        lines =
-            left
-            ∙ ap (λ lines. event_line sizes old.next ∷ lines)
-            (sym (ap (λ g. lines_left sizes g (old.next + 1)) c.requires.group));
-        put = subst (PutsLine c.args.line.now.items c.put_event.new.line.items) same c.in_ok-put_event.ensures.put;
-      };
+      at =
+          subst (λ group. Stands sizes group (old.next + 1) second (slice_set old.live.items info new))
+          (sym c.requires.group)
+          (moved sizes old.next old.state second old.live.items info new frees stands some info_is frees_is below
+          (λ kind. c.blocks_behind.ensures.allocated kind ∙ ap (λ n. n + 1) blocks)
+          (λ kind. c.blocks_behind.ensures.freed kind ∙ blocks) second_is c.next_state-self-2.ensures.small);
+      lines =
+          left
+          ∙
+          (ap (λ lines. event_line sizes old.next ∷ lines)
+          (sym (ap (λ g. lines_left sizes g (old.next + 1)) c.requires.group))
+          ∙ ap (λ one. one ∷ lines_left sizes old.group (old.next + 1)) (sym same));
+      short = short_event frees info (c.hexadecimal_texts.ensures.at_most_16 info (omega (arith, below, old.options.stacks_in_range)));
     }
