@@ -56,10 +56,12 @@ module _ (back : (n : ℕ) → n < 2 ^ 64 → parsed_hex (hexadecimal n) ≡ Som
       not_first : (k : EventKind) → may_stand_first (event_text k info) ≡ false
       not_first Allocation = refl
       not_first FreeKind = refl
+
       unknown : (k : EventKind) (t : TableState) → length t.infos ≤ info
           → said_fault t (event_content k info) ≡ Some UnknownAllocation
       unknown Allocation t past = rw (le-ltb info (length t.infos) past) refl
       unknown FreeKind t past = rw (le-ltb info (length t.infos) past) refl
+
       by : (version : Option ℕ) → now.version ≡ version
           → fault_in now (event_text kind info) ≡ Some (unheld_fault now.version)
       by None is = rw (is, not_first kind) refl

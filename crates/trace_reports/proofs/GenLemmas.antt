@@ -1,9 +1,8 @@
 -- The summary of a generated trace.
-use Rattle.std.proofs.Common.{◌≡◌, ℕ, ◌+◌, ◌*◌, ◌<◌, ◌≤◌, List, [], ◌∷◌, ◌++◌, Option, None, Some, length, refl, ap}
+use Rattle.std.proofs.Common.{◌≡◌, ℕ, ◌-◌, ◌≤◌, List, [], ◌∷◌, ◌++◌, Option, None, Some, length, take, refl, ap}
 use Rattle.std.proofs.Common.{ap₂, sym, subst, ◌∙◌, append-nil, append_assoc, length-append, arith}
+use Rattle.std.proofs.Math.Seq.{take-append_seam}
 use Rattle.std.specs.Option.{option_map, option_or}
-use Rattle.hp_outside.specs.Lines.{lines_of}
-use Rattle.hp_outside.specs.WholeLines.{text_of_lines}
 use Rattle.live_ledger.specs.declared.event.Event.{Event}
 use Rattle.ht_trace.specs.StepOf.{event_of, step_of}
 use Rattle.ht_trace.specs.TableState.{TableState}
@@ -12,14 +11,15 @@ use Rattle.ht_trace.specs.TraceEvents.{events}
 use Rattle.sound_traces.specs.NoFault.{HasNoFault, IsGood, event_fault}
 use Rattle.trace_gen.specs.declared.generator.Generator.{Generator}
 use Rattle.trace_gen.specs.GeneratorState.{IsAt, lines_yet}
+use Rattle.command_frame.specs.declared.taker.LineRefusal.TheVariants.{Fault}
+use Rattle.trace_reading.specs.declared.fault.TraceFault.{TraceFault}
 use Rattle.trace_reading.specs.declared.fault.TraceFault.TheVariants.{Line, Event as in_ledger}
 use Rattle.trace_reading.specs.declared.trace.Trace.{Trace}
 use Rattle.trace_reading.specs.TotalsView.{totals_view}
-use Rattle.trace_reading.specs.ReadTrace.{HasRead, HasReadText}
+use Rattle.trace_reading.specs.ReadTrace.{RefusesLine}
 use Rattle.trace_reading.specs.TraceFault.{told}
-use Rattle.trace_reading.specs.TraceReport.{HaveNoFault, content_fault, fault_among, ledger_faults, tables_behind}
-use Rattle.trace_reading.proofs.Laws.{lines_of-whole}
-use Rattle.trace_reports.specs.GenTaken.{HasTaken}
+use Rattle.trace_reading.specs.TraceReport.{content_fault, fault_among, ledger_faults, tables_behind}
+use Rattle.trace_reports.specs.GenTaken.{HasTaken, MayReadLine, ReadsLine}
 use Rattle.trace_gen.specs.GeneratedTrace.{generated_lines}
 use Rattle.trace_gen.specs.Sizes.{Sizes}
 use Rattle.trace_reports.specs.GenReport.{gen_summary}
