@@ -1,4 +1,4 @@
-use Rattle.std.proofs.Common.{[], ◌≡◌, ◌-◌, ℕ, List, length, take, ap, ap₂, subst, sym, ◌∙◌}
+use Rattle.std.proofs.Common.{[], ◌≡◌, ◌-◌, ℕ, List, take, ap₂, subst, ◌∙◌}
 use Rattle.trace_gen.specs.declared.generator.Generator.{Generator}
 use Rattle.trace_gen.specs.GeneratorState.{Gives, MakesLine, lines_yet}
 use Rattle.trace_reports.specs.GenTaken.{ReadsLine}
