@@ -50,18 +50,7 @@ module _ (old : Trace PeakTotalsState) (before after : Generator) (lines : List 
   good : HasNoFault taken.taken (line ∷ lines_yet after)
   good = subst (HasNoFault taken.taken) next taken.no_fault
 
-  -- the next line may be read
-  pub next_may : MayReadLine old line
-  next_may = record {
-    sound = taken.sound;
-    earlier = taken.taken;
-    read = taken.read;
-    good = line_good taken.taken line good.0;
-    short = short;
-    room = omega (arith, taken.room);
-  }
-
-  -- and once it was, it is one of those that were taken
+  -- once it was read, the next line is one of those that were taken
   pub next_taken : (new : Trace PeakTotalsState) → IsAt after → ReadsLine old new line → HasTaken new after lines
   next_taken new at read = record {
     at = at;
@@ -75,22 +64,8 @@ module _ (old : Trace PeakTotalsState) (before after : Generator) (lines : List 
     room = omega (arith, read.measure, short, ap length next, taken.room);
   }
 
--- where no line is left, all were taken
-pub none_left : (trace : Trace PeakTotalsState) (generator : Generator) (lines : List (List ℕ))
-    (taken : HasTaken trace generator lines) → lines_yet generator ≡ [] → lines ≡ taken.taken
-none_left trace generator lines taken none =
-    taken.split ∙ (ap (λ more. taken.taken ++ more) none ∙ append-nil taken.taken)
-
 -- the text of a line is its bytes but for the line feed
 pub without_feed : (text line : List ℕ) → text ≡ line ++ (10 ∷ []) → take (length text - 1) text ≡ line
 without_feed text line is =
     let count : length text - 1 ≡ length line = omega (arith, ap length is, length-append line (10 ∷ [])) in
     ap₂ take count is ∙ take-append_seam line (10 ∷ [])
-
--- a refusal of a line without a fault tells none
-pub refuses_none : (trace : Trace PeakTotalsState) (line : List ℕ) (may : MayReadLine trace line) (fault : TraceFault)
-    → RefusesLine ledger_faults totals_view trace line (Fault fault) → ⊥
-refuses_none trace line may fault refuses =
-    let found = refuses [] may.earlier may.read in
-    let clash : None ≡ Some (told fault) = sym may.good ∙ found in
-    absurd (cc)
