@@ -22,6 +22,7 @@ pub mod View
 pub mod NextFronts
 pub mod Order
 pub mod CostLines
+pub mod SmallTexts
 pub mod TreeLines
 pub mod IsShownAs
 pub mod AreLinesOf
