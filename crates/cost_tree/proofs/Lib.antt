@@ -35,4 +35,5 @@ mod Tailing
 mod Forking
 mod Levels
 mod Lengthening
+mod SmallTexts
 pub mod Laws
