@@ -36,4 +36,5 @@ mod Forking
 mod Levels
 mod Lengthening
 mod SmallTexts
+mod SmallCounts
 pub mod Laws

@@ -388,7 +388,7 @@ passing front stacks test =
     ∙ ap (λ (ns : List ℕ). map longer ns) (filter-both (opens front stacks) (λ n. test (longer n)) places)
 
 -- the first texts that are left are those that are large enough
-next-left : (scale : Scale) (stacks : List Costed)
+pub next-left : (scale : Scale) (stacks : List Costed)
     → next_fronts [] (without_small scale stacks)
     ≡ filter (λ next. not (is_small scale (cost_of stacks next))) (next_fronts [] stacks)
 unfolding without_small
@@ -399,10 +399,10 @@ next-left scale stacks =
     ∙ sym (passing [] stacks (λ next. not (is_small scale (cost_of stacks next))))
 
 -- a first text that is large enough
-record IsLeft (scale : Scale) (stacks : List Costed) (next : List (List ℕ)) : Type 0 where
-  count : length next ≡ 1
-  large : is_small scale (cost_of stacks next) ≡ false
-  cost : cost_of (without_small scale stacks) next ≡ cost_of stacks next
+pub record IsLeft (scale : Scale) (stacks : List Costed) (next : List (List ℕ)) : Type 0 where
+  pub count : length next ≡ 1
+  pub large : is_small scale (cost_of stacks next) ≡ false
+  pub cost : cost_of (without_small scale stacks) next ≡ cost_of stacks next
 
 is-left : (scale : Scale) (stacks : List Costed) (next : List (List ℕ)) → length next ≡ 1
     → is_small scale (cost_of stacks next) ≡ false → IsLeft scale stacks next
@@ -413,7 +413,7 @@ is-left scale stacks next one large = record {
   cost = inclusive-kept next (unless_small scale stacks) stacks (keeps-large scale stacks next one large);
 }
 
-left : (scale : Scale) (stacks : List Costed) → All (IsLeft scale stacks) (next_fronts [] (without_small scale stacks))
+pub left : (scale : Scale) (stacks : List Costed) → All (IsLeft scale stacks) (next_fronts [] (without_small scale stacks))
 left scale stacks =
     let nexts : List (List (List ℕ)) = next_fronts [] stacks in
     subst (All (IsLeft scale stacks)) (sym (next-left scale stacks))
