@@ -367,7 +367,7 @@ raised-left scale (k ∷ counts) (l ∷ lengths) (c ∷ costs) some same as_many
     ]
 
 -- what costs no more than something small is small
-less-small : (scale : Scale) (cost more : ℕ) → cost ≤ more → is_small scale more ≡ true → is_small scale cost ≡ true
+pub less-small : (scale : Scale) (cost more : ℕ) → cost ≤ more → is_small scale more ≡ true → is_small scale cost ≡ true
 less-small scale cost more within small =
     let less = ltb-true (10000 * more) (scale.threshold * scale.total) small in
     lt-ltb (10000 * cost) (scale.threshold * scale.total) (omega arith)
@@ -636,7 +636,7 @@ raised-more scale counts lengths costs i before same as_many within are =
     ∙ ap (λ (cs : List ℕ). raised_counts scale (take (i + 1) counts) (take (i + 1) lengths) cs)
     (sym (take_more costs i 0 (omega arith)))
 
-ended-more : (ends costs : List ℕ) (i node : ℕ) → length costs ≡ length ends → i < length ends
+pub ended-more : (ends costs : List ℕ) (i node : ℕ) → length costs ≡ length ends → i < length ends
     → ended_cost (take (i + 1) ends) (take (i + 1) costs) node
     ≡ ended_cost (take i ends) (take i costs) node + cond {A = ℕ} (eqb (get_or ends i 0) node) (get_or costs i 0) 0
 ended-more ends costs i node same within =

@@ -37,4 +37,7 @@ mod Levels
 mod Lengthening
 mod SmallTexts
 mod SmallCounts
+mod TakingSmall
+mod Gathering
+mod BothLines
 pub mod Laws

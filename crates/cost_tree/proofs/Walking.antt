@@ -2,7 +2,6 @@
 use Rattle.std.proofs.Common.{◌≡◌, ℕ, ◌+◌, ◌<◌, Bool, true, false, cond, not, List, [], ◌∷◌, ◌++◌, length, map, filter}
 use Rattle.std.proofs.Common.{reverse, refl, sym, ap, ◌∙◌, subst, append-nil, Some, arith}
 use Rattle.std.specs.Prelude.{All, Contains}
-use Rattle.std.specs.List.{flat_map}
 use Rattle.std.proofs.lemmas.List.{map_push}
 use Rattle.std.proofs.lemmas.List.Elements.{All-append, All-cons, All-nil, All-pop}
 use Rattle.cost_tree.specs.declared.line.CostLine.{CostLine}
@@ -12,25 +11,16 @@ use Rattle.cost_tree.specs.declared.scale.Scale.{Scale}
 use Rattle.cost_tree.specs.AreLinesOf.{AreLinesOf}
 use Rattle.cost_tree.specs.Children.{children_of}
 use Rattle.cost_tree.specs.Costed.{Costed}
-use Rattle.cost_tree.specs.CostLines.{cost_lines}
 use Rattle.cost_tree.specs.Order.{by_cost}
 use Rattle.cost_tree.specs.Pendings.{IsLeft, IsPending, gathered_line, pending_alone, pending_below, pending_children}
 use Rattle.cost_tree.specs.Pendings.{pending_gathered, pending_line, pending_lines}
 use Rattle.cost_tree.specs.Shares.{cost_at, gathered_in, is_kept_at, is_small_at, kept_children, small_children}
 use Rattle.cost_tree.specs.TreeLines.{HasLines, IsLineOf, line_at}
 use Rattle.cost_tree.specs.TreeState.{TreeState}
+use Rattle.cost_tree.specs.WalkLines.{IsWalking}
 use Rattle.std.proofs.lemmas.Option.{slice_get_within}
 use Rattle.cost_tree.proofs.Linking.{children_of-only}
 use Rattle.cost_tree.proofs.Walks.{left-step, root-lines, root-pending, step-is}
-
--- the lines that were given, and what is pending, are the lines of the tree
-pub record IsWalking (scale : Scale) (tree : TreeState) (lines : List CostLine) (pending : List Pending) : Type 0 where
-  pub held : All (IsPending tree) pending
-  pub made : (stacks : List Costed) (depth : ℕ) → HasLines tree stacks depth
-      → map (line_at tree) lines ++ flat_map (pending_lines depth scale tree stacks) (reverse pending)
-      ≡ cost_lines depth scale stacks
-  pub each : (stacks : List Costed) (depth : ℕ) → HasLines tree stacks depth → All (IsLineOf tree stacks depth) lines
-  pub left : (stacks : List Costed) (depth : ℕ) → HasLines tree stacks depth → All (IsLeft tree stacks depth) pending
 
 -- the root is pending, and no line was given
 pub walking-root : (scale : Scale) (tree : TreeState) (stacks : List Costed) (depth : ℕ) → HasLines tree stacks depth

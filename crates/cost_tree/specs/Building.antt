@@ -1,9 +1,8 @@
 -- What is kept of a tree while it grows along a shape.
 use Rattle.std.specs.Prelude.{◌≡◌, ℕ, ◌+◌, ◌-◌, ◌<◌, ◌≤◌, All, List, [], ◌∷◌, ◌++◌, length, map, replicate, take, Some}
-use Rattle.std.specs.Prelude.{slice_get, slice_index, slice_set, sum_by, ◌*◌}
+use Rattle.std.specs.Prelude.{slice_get, slice_index, slice_set, sum_by}
 use Rattle.cost_tree.specs.declared.branches.Branches.{Branches}
 use Rattle.cost_tree.specs.declared.edge.Edge.{Edge}
-use Rattle.cost_tree.specs.declared.node.CostNode.{CostNode}
 use Rattle.cost_tree.specs.Costed.{Costed}
 use Rattle.cost_tree.specs.Growth.{AreBranches, IsGrown, weight}
 use Rattle.cost_tree.specs.Shapes.{list_at}

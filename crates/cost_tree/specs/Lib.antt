@@ -23,6 +23,7 @@ pub mod NextFronts
 pub mod Order
 pub mod CostLines
 pub mod SmallTexts
+pub mod Gathering
 pub mod TreeLines
 pub mod IsShownAs
 pub mod AreLinesOf
@@ -31,8 +32,10 @@ pub mod Following
 pub mod ChainLists
 pub mod CutShapes
 pub mod CutState
+pub mod SmallCosts
 pub mod Alone
 pub mod Tails
 pub mod TreeTails
 pub mod Shares
 pub mod Pendings
+pub mod WalkLines

@@ -15,10 +15,10 @@ pub(crate) struct Child {
     pub(crate) cost: u64,
 }
 
-/// The children that are too small for lines of their own.
+/// What is too small for lines of its own.
 #[derive(Clone, Copy)]
-pub(crate) struct Gathered {
-    /// How many there are.
+pub struct Gathered {
+    /// How many places there are.
     pub(crate) places: u64,
     /// What they cost together.
     pub(crate) cost: u64,

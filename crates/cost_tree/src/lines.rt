@@ -1,7 +1,11 @@
 //! The lines of a tree: that of a node stands before those of its children.
 //! Where a tree comes from, and how a line is written, are no part of it.
-ghost use Rattle.std.specs.Prelude.{◌≡◌, ◌<◌, ◌≤◌, ◌^◌, [], ◌++◌, length, IfOk, OnOk, sum_by};
-ghost use Rattle.cost_tree.specs.Pendings.{AddsChildren, IsPending, child_lines, children_below, pending_alone, pending_below, pending_gathered, pending_line, pending_of};
+ghost use Rattle.std.specs.Prelude.{◌≡◌, ℕ, ◌+◌, ◌<◌, ◌≤◌, ◌^◌, if◌then◌else◌, nat_lt, List, [], ◌++◌, length, IfOk, OnOk, sum_by};
+ghost use Rattle.cost_tree.specs.declared.line.CostLine.{CostLine};
+ghost use Rattle.cost_tree.specs.Costed.{Costed};
+ghost use Rattle.cost_tree.specs.Gathering.{HaveLines, TakesBoth};
+ghost use Rattle.cost_tree.specs.Pendings.{AddsChildren, IsPending, child_lines, children_below, gathered_line, pending_alone, pending_below, pending_gathered, pending_line, pending_of};
+ghost use Rattle.cost_tree.specs.WalkLines.{IsWalking, TakesBehind, TakesLeft, few_lines, root_line};
 ghost use Rattle.cost_tree.specs.Shares.{HasFewChildren, cost_at};
 ghost use Rattle.cost_tree.specs.AreLinesOf.{AreInTree, GivesLines, StandForAll, TakesLines};
 
@@ -61,8 +65,80 @@ pub fn take_lines<T: CostLineTaker>(
     };
     let mut pending = Vec::new(alloc);
     pending.push(Pending::Below { level: 0, node: 0 })?;
+    take_left(tree, scale, &mut children, &mut pending, taker)
+}
+
+/// Gives the lines of the tree and of what is gathered beside it to a taker one by one: the line of node 0 counts both, and that of
+/// what is gathered comes last. After `NoMemory` the taker is of no use.
+pub fn take_both_lines<T: CostLineTaker>(
+    alloc: Global,
+    tree: &CostTree,
+    scale: Scale,
+    gathered: Gathered,
+    taker: &mut T,
+) -> Result<(), NoMemory>
+    requires both { (stacks : List Costed) × (depth : ℕ)
+        × HaveLines scale tree.now gathered stacks depth }
+    requires none_yet { T.takes tree.now taker.old [] taker.old }
+    ensures taken { OnOk result (TakesBoth T.takes scale tree.now gathered taker.old taker.new) }
+{
+    let mut children = Children {
+        nodes: Vec::new(alloc),
+        kept: Vec::new(alloc),
+    };
+    let mut pending = Vec::new(alloc);
+    let root = Pending::Below { level: 0, node: 0 };
+    let line = take_pending(tree, scale, root, &mut children, &mut pending)?;
+    taker.take_line(tree, with_gathered(line, gathered))?;
+    take_left(tree, scale, &mut children, &mut pending, taker)?;
+    take_gathered(tree, gathered, taker)
+}
+
+/// Gives the line of what is gathered beside the tree to a taker, where there is some.
+fn take_gathered<T: CostLineTaker>(
+    tree: &CostTree,
+    gathered: Gathered,
+    taker: &mut T,
+) -> Result<(), NoMemory>
+    requires tree { GivesLines tree.now }
+    ensures taken { OnOk result
+        (TakesBehind (T.takes tree.now) (few_lines gathered) taker.old taker.new) }
+{
+    if gathered.places > 0 {
+        return taker.take_line(tree, gathered_line(1, gathered));
+    }
+    Ok(())
+}
+
+/// The line of node 0 with what is gathered beside the tree.
+fn with_gathered(root: CostLine, gathered: Gathered) -> CostLine
+    requires children { root.children + (if nat_lt 0 gathered.places then 1 else 0) < 2 ^ 32 }
+    requires cost { root.cost + gathered.cost < 2 ^ 64 }
+    ensures { result ≡ root_line root gathered }
+{
+    CostLine {
+        level: root.level,
+        children: root.children + u32::from(gathered.places > 0),
+        cost: root.cost + gathered.cost,
+        place: root.place,
+    }
+}
+
+/// Gives the lines of what is pending to a taker, and leaves nothing. `children` are buffers.
+fn take_left<T: CostLineTaker>(
+    tree: &CostTree,
+    scale: Scale,
+    children: &mut Children,
+    pending: &mut Vec<Pending>,
+    taker: &mut T,
+) -> Result<(), NoMemory>
+    requires tree { GivesLines tree.now }
+    requires walking { (lines : List CostLine) × IsWalking scale tree.now lines pending.old.items }
+    ensures taken { OnOk result
+        (TakesLeft T.takes scale tree.now pending.old.items taker.old taker.new) }
+{
     'each_pending: while let Some(next) = pending.pop() {
-        let line = take_pending(tree, scale, next, &mut children, &mut pending)?;
+        let line = take_pending(tree, scale, next, children, pending)?;
         taker.take_line(tree, line)?;
     }
     Ok(())
@@ -191,17 +267,25 @@ fn push_gathered(
         (pending.new.items ≡ pending.old.items ++ pending_gathered level gathered) }
 {
     if gathered.places > 0 {
-        let line = CostLine {
-            level,
-            children: 0,
-            cost: gathered.cost,
-            place: Place::Gathered {
-                places: gathered.places,
-            },
-        };
-        pending.push(Pending::Line { line })?;
+        pending.push(Pending::Line {
+            line: gathered_line(level, gathered),
+        })?;
     }
     Ok(())
+}
+
+/// The line of what is gathered on a level.
+fn gathered_line(level: usize, gathered: Gathered) -> CostLine
+    ensures { result ≡ gathered_line level gathered }
+{
+    CostLine {
+        level,
+        children: 0,
+        cost: gathered.cost,
+        place: Place::Gathered {
+            places: gathered.places,
+        },
+    }
 }
 
 /// Appends the children, the first one last, and leaves none of them.

@@ -8,8 +8,10 @@ use std::alloc::Global;
 /// The vectors that a tree is made in.
 #[derive(Drop)]
 pub struct TreeRoom {
-    /// What each list costs.
+    /// What each list costs in a tree.
     pub(crate) costs: Vec<u64>,
+    /// What lists cost together that begin with each text.
+    pub(crate) firsts: Vec<u64>,
     pub(crate) cut: CutRoom,
     pub(crate) nodes: NodeRoom,
 }
@@ -34,6 +36,7 @@ impl TreeRoom {
     pub(crate) fn new(alloc: Global) -> TreeRoom {
         TreeRoom {
             costs: Vec::new(alloc),
+            firsts: Vec::new(alloc),
             cut: CutRoom::new(alloc),
             nodes: NodeRoom::new(alloc),
         }

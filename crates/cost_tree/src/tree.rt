@@ -70,22 +70,20 @@ impl<'a> CostTree<'a> {
         CostTree::of_costs(alloc, fronts, &costs, depth)
     }
 
-    /// The tree of the lists as they are cut, to fronts of at most `depth` texts, or `NoMemory`. It's made in the vectors of the
-    /// room, which `into_room` gives back.
-    pub fn of_cut<F: Fn(u32) -> u64>(
+    /// The tree of the lists as they are cut, to fronts of at most `depth` texts and with the costs of the room, or `NoMemory`.
+    /// It's made in the vectors of the room, which `into_room` gives back.
+    pub fn of_cut(
         alloc: Global,
         fronts: &'a CutFronts,
-        costing: &Costing<F>,
         depth: u32,
         room: &mut TreeRoom,
     ) -> Result<CostTree<'a>, NoMemory>
-        requires as_many { costing.now.stacks ≡ length fronts.now.cut }
-        requires stated { IsStated F.pre F.post costing.now }
+        requires as_many { length room.old.costs.items ≡ length fronts.now.cut }
+        requires bound { sum room.old.costs.items ≤ 2 ^ 62 }
         ensures lines { IfOk result
-            (HasLinesOfStated (HasCosts F.pre F.post costing.now) fronts.now.cut depth) }
+            (λ tree. HasLines tree (costed fronts.now.cut room.old.costs.items) depth) }
     {
         let TreeRoom { costs, nodes, .. } = room;
-        costing.list_into(costs)?;
         let CutFronts { names, cut, .. } = fronts;
         CostTree::of_shape(alloc, names, &cut.shape, costs, depth, nodes)
     }

@@ -5,5 +5,6 @@ mod LabelTexts
 mod Listed
 mod OneLine
 mod Trimming
+mod Gathering
 mod Writable
 pub mod Laws

@@ -193,20 +193,15 @@ trimmed-none tables names stack innermost at unlisted =
         cond-false (is_listed tables names first) (1 + prefix_len (is_listed tables names) frames) 0
         (ap (is_listed tables names) same ∙ unlisted)
 
--- the tree of the first texts of stacks, cut where no line needs more, is that of all their texts
-pub tree-cut : (options : TreeOptions) (total : ℕ) (tables : TableState) (names : List (List ℕ)) (count : ℕ)
-    (costs : List ℕ) (cut whole : List (List (List ℕ)))
-    → ((depth : ℕ)
-    → cost_lines depth (scale_of options total) (costed cut costs)
-    ≡ cost_lines depth (scale_of options total) (costed whole costs))
-    → whole ≡ first_lists tables names (options.depth + 1) count
-    → massif_tree options total (costed cut costs)
+-- the tree of the first texts of stacks is that of all their texts
+pub tree-first : (options : TreeOptions) (total : ℕ) (tables : TableState) (names : List (List ℕ)) (count : ℕ)
+    (costs : List ℕ) (lists : List (List (List ℕ))) → lists ≡ first_lists tables names (options.depth + 1) count
+    → massif_tree options total (costed lists costs)
     ≡ massif_tree options total (costed (trimmed_before tables names count) costs)
 unfolding massif_tree first_lists trimmed_before
-tree-cut options total tables names count costs cut whole same are =
+tree-first options total tables names count costs lists are =
     ap (λ (lines : List FrontLine). map (massif_line options.threshold) lines)
-    (same options.depth
-    ∙ ap (λ (lists : List (List (List ℕ))). cost_lines options.depth (scale_of options total) (costed lists costs)) are
+    (ap (λ (lists : List (List (List ℕ))). cost_lines options.depth (scale_of options total) (costed lists costs)) are
     ∙ lines-first options.depth (scale_of options total) (trimmed_texts tables names) (range_with_len 0 count) costs)
 
 -- one stack more

@@ -4,6 +4,5 @@ pub mod Whole
 pub mod Labels
 pub mod KnownLabels
 pub mod MassifTree
-pub mod IsShown
 pub mod LabelsIn
 pub mod TreeFacts

@@ -5,13 +5,13 @@
 //!
 //! - `is_ignored` says whether a stack is ignored: behind its front of allocation functions (`trimmed`), its first
 //!   frame has a function that is to be ignored.
-//! - `tree_lines` gives the lines of a tree of costs (`massif_tree`): a line for each front whose share of the
-//!   snapshot's total reaches the threshold, the costly ones first, and one for the others together. Each is made of
-//!   one line of `cost_tree`. `forked_lines` gives them of whole lists of texts (`ForkedFronts`), and keeps a label once that
-//!   many lines have.
+//! - `forked_lines` gives the lines of a tree of whole lists of texts (`ForkedFronts`): a line for each front whose share of the
+//!   snapshot's total reaches the threshold, the costly ones first, and one for the others together (`massif_tree`). Each is made
+//!   of one line of `cost_tree`. A label is kept once that many lines have.
 //! - `add_trimmed` makes the lists of a trace's stacks as they are trimmed, once for each stack and of at most one text more
-//!   than a tree is deep, and `snapshot_tree` gives the lines of the tree of such lists. A stack's list goes on with that of
-//!   the stack that it is called from, so texts are made once a node.
+//!   than a tree is deep, and `snapshot_tree` gives the lines of the tree of such lists: stacks whose innermost text is too small
+//!   as a whole are only counted. A stack's list goes on with that of the stack that it is called from, so texts are made once a
+//!   node.
 //! - The law `massif_trees` says that such lines may stand in a profile: counts and levels are right to a depth of 256
 //!   (`right`), the first line has the sum of all costs (`root`), and numbers and labels may be written (`writable`),
 //!   as the texts of a trace may whose strings have no line feed (`texts`).
@@ -40,7 +40,6 @@ mod trimmed_fronts;
 
 pub use forked_tree::forked_lines;
 pub use function_lists::is_ignored;
-pub use lines::tree_lines;
 pub use options::TreeOptions;
 pub use snapshot::snapshot_tree;
 pub use tree_laws::massif_trees;

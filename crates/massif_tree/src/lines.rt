@@ -2,40 +2,40 @@
 //! Which places have lines of their own, and in which order, is `cost_tree`'s part.
 ghost use Rattle.std.specs.Prelude.{◌≡◌, ◌<◌, [], List, length, IfOk};
 ghost use Rattle.cost_tree.specs.Costed.{Costed};
+ghost use Rattle.cost_tree.specs.Gathering.{HaveLines};
 ghost use Rattle.cost_tree.specs.TreeLines.{front_at};
 ghost use Rattle.massif_file.specs.TreeLine.{line_of};
-ghost use Rattle.massif_tree.specs.IsShown.{AreLinesOfShown, IsShown};
-ghost use Rattle.massif_tree.specs.LabelsIn.{line_in};
-ghost use Rattle.massif_tree.specs.MassifTree.{label_of};
+ghost use Rattle.massif_tree.specs.LabelsIn.{AreLinesOfBoth, line_in};
+ghost use Rattle.massif_tree.specs.MassifTree.{label_of, scale_of};
 
 use crate::labels::{put_gathered_label, root_label};
 use crate::options::TreeOptions;
-use cost_tree::{CostLine, CostLineTaker, CostTree, Place, Scale, take_lines};
+use cost_tree::{CostLine, CostLineTaker, CostTree, Gathered, Place, Scale, take_both_lines};
 use hp_num::NoMemory;
 use massif_file::{Tree, TreeFields};
 use std::alloc::Global;
 
-/// The lines of the tree, or `NoMemory`: a line for the root, and below a line the places whose share of the total reaches
-/// the threshold, by descending bytes and then by their least stack, before one line for all others.
+/// The lines of the tree with what is gathered beside it, or `NoMemory`: a line for the root, and below a line the places whose
+/// share of the total reaches the threshold, by descending bytes and then by their least stack, before one line for all others.
 ///
-/// The tree must be one of fewer than 2^32 stacks to `options.depth` texts. The total is in bytes.
-pub fn tree_lines(
+/// The tree must be one to `options.depth` texts. The total is in bytes.
+pub(crate) fn tree_lines(
     alloc: Global,
     tree: &CostTree,
+    gathered: Gathered,
     options: &TreeOptions,
     total: u64,
 ) -> Result<Tree, NoMemory>
-    requires tree { (stacks : List Costed) × IsShown tree.now stacks options.now.depth }
-    ensures lines { IfOk result (AreLinesOfShown options.now total tree.now) }
+    requires both { (stacks : List Costed)
+        × HaveLines (scale_of options.now total) tree.now gathered stacks options.now.depth }
+    ensures lines { IfOk result (AreLinesOfBoth options.now total tree.now gathered) }
 {
-    // Says that the depth fits.
-    let _depth = options.depth;
     let scale = Scale {
         total,
         threshold: options.threshold,
     };
     let mut lines = FileLines::new(alloc, options.threshold);
-    take_lines(alloc, tree, scale, &mut lines)?;
+    take_both_lines(alloc, tree, scale, gathered, &mut lines)?;
     let FileLines { made, .. } = lines;
     Ok(made)
 }

@@ -15,7 +15,7 @@ use std::alloc::Global;
 /// its frames, from the innermost on, without its front of allocation functions. The snapshot has this total in bytes.
 ///
 /// The lists are those that `add_trimmed` makes for these options, cut somewhere: they are made longer where lines need it,
-/// and no text is made here.
+/// and no text is made here. Those whose first text is too small as a whole are only counted.
 pub fn snapshot_tree<F: Fn(u32) -> u64>(
     alloc: Global,
     fronts: &mut CutFronts,
@@ -33,12 +33,13 @@ pub fn snapshot_tree<F: Fn(u32) -> u64>(
         total,
         threshold: options.threshold,
     };
-    fronts.lengthen(alloc, costing, scale)?;
+    let mut room = fronts.take_room(alloc);
+    let gathered = fronts.gather_small(costing, scale, options.depth, &mut room)?;
+    fronts.lengthen(alloc, scale, &mut room)?;
     // Says how many lists there may be.
     let _count = fronts.len();
-    let mut room = fronts.take_room(alloc);
-    let tree = CostTree::of_cut(alloc, fronts, costing, options.depth, &mut room)?;
-    let lines = tree_lines(alloc, &tree, options, total);
+    let tree = CostTree::of_cut(alloc, fronts, options.depth, &mut room)?;
+    let lines = tree_lines(alloc, &tree, gathered, options, total);
     tree.into_room(&mut room);
     fronts.put_room(room);
     lines

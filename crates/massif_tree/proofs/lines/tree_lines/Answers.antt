@@ -13,15 +13,13 @@ returns c =
     let tree = c.args.tree.now in
     let threshold = c.args.options.now.threshold in
     let depth = c.args.options.now.depth in
-    let taken = c.in_ok-take_lines.ensures.taken in
+    let taken = c.in_ok-take_both_lines.ensures.taken in
     record {
-      lines = λ stacks shown.
-          let has : HasLines tree stacks depth =
-          record { tree_of = shown.tree_of; few = shown.few; within = shown.within; shallow = omega arith } in
+      lines = λ stacks have.
           taken.2.1
           ∙ ap (λ (made : List TreeLine). made ++ map (line_in c.new-lines.result.threshold tree) taken.0)
           c.new-lines.ensures.none
           ∙ ap (λ (least : ℕ). map (line_in least tree) taken.0) c.new-lines.ensures.threshold
           ∙ sym (map-map (massif_line threshold) (line_at tree) taken.0)
-          ∙ ap (λ (ls : List FrontLine). map (massif_line threshold) ls) (taken.1.all stacks depth has);
+          ∙ ap (λ (ls : List FrontLine). map (massif_line threshold) ls) (taken.1 stacks depth have);
     }
