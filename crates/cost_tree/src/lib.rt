@@ -12,14 +12,16 @@
 //!   most `depth` texts whose cost isn't 0, and node 0 for the empty one.
 //! - `CostTree::of_lists` gives it for lists that are told, with their texts for its own, and looks for their fronts only then. The
 //!   lists of a trace's stacks are the business of `stack_trees`.
-//! - `CutFronts` keeps lists cut behind fronts that have no line: `lengthen` makes them so long that the lines of `of_cut`'s tree
-//!   are those of the whole lists, with these costs. Its lists are made of names and of lists of their numbers that go on with
+//! - `CutFronts` keeps lists cut behind fronts that have no line. `gather_small` lists what they cost without those whose first
+//!   text is too small as a whole, and counts these (`Gathered`). `lengthen` makes the lists so long that the lines of `of_cut`'s
+//!   tree are those of the whole lists, with these costs. Its lists are made of names and of lists of their numbers that go on with
 //!   earlier ones (`from_parts`). It keeps the vectors that trees are made in, too, so that one tree after another takes memory
 //!   anew only where it's larger (`take_room`, `into_room` and `put_room`).
 //! - A node says its parent, which stands before it, its cost, its own cost and the first stack. `text` is its front's
 //!   last text, and `children_into` gives all its children by ascending number, which is also by ascending first stack.
 //! - `cost_lines` gives the lines of a tree above a threshold, as a list over fronts (`CostLines`): costly fronts first,
-//!   and one line for the others of a node. `take_lines` gives them one by one to what takes them (`CostLineTaker`).
+//!   and one line for the others of a node. `take_lines` gives them one by one to what takes them (`CostLineTaker`), and
+//!   `take_both_lines` those of a tree and of what is gathered beside it.
 //! - `take_front_lines` gives the same lines of lists with costs, without a tree that has a node for each: `ForkedFronts` keeps lists cut
 //!   where they go on alone, and the lines behind that are made of their texts. `FrontLineTaker` takes the
 //!   texts, and then each line with its front's last text and the number of that.
@@ -36,6 +38,7 @@
 //! | `caller_lists.rt`, `list_step.rt` | lists of texts as they are told, and one step of that |
 //! | `chains.rt`, `chain.rt` | lists of numbers that go on with earlier ones; one of them |
 //! | `cut_fronts.rt`, `cut.rt`, `ends.rt` | lists of texts that are cut, and of numbers; what lists cost together that end at one node |
+//! | `small_texts.rt` | which first texts are too small as a whole, and what is left of the costs without them |
 //! | `forked_fronts.rt`, `tails.rt` | lists of texts that are cut where they go on alone; the lines of their texts behind that |
 //! | `costing.rt`, `frame_test.rt` | what each stack costs, and which names are meant, by closures |
 //! | `branches.rt`, `summing.rt` | a tree that grows along a shape; what its nodes cost with those below them |

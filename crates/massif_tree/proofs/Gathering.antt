@@ -1,8 +1,8 @@
 -- A tree of lists that are cut, and what is gathered beside it, have the lines of the whole lists.
-use Rattle.std.proofs.Common.{◌≡◌, ℕ, ◌+◌, ◌^◌, ◌<◌, ◌≤◌, List, [], length, sym, ap, ◌∙◌, sum, arith}
+use Rattle.std.proofs.Common.{◌≡◌, ℕ, ◌^◌, ◌<◌, ◌≤◌, List, [], length, sym, ap, ◌∙◌, sum, arith}
 use Rattle.cost_tree.specs.declared.children.Gathered.{Gathered}
 use Rattle.cost_tree.specs.declared.scale.Scale.{Scale}
-use Rattle.cost_tree.specs.Costed.{Costed, costed}
+use Rattle.cost_tree.specs.Costed.{costed}
 use Rattle.cost_tree.specs.CostLines.{FrontLine, cost_lines, cost_of}
 use Rattle.cost_tree.specs.CutState.{CutState, HasWholeLines}
 use Rattle.cost_tree.specs.Gathering.{GathersSmall, HaveLines, lines_of}

@@ -1,7 +1,7 @@
-use Rattle.std.proofs.Common.{ℕ, List, ◌++◌, map, sym, ap, ◌∙◌, arith}
+use Rattle.std.proofs.Common.{ℕ, List, ◌++◌, map, sym, ap, ◌∙◌}
 use Rattle.std.proofs.lemmas.Simd.{map-map}
 use Rattle.cost_tree.specs.CostLines.{FrontLine}
-use Rattle.cost_tree.specs.TreeLines.{HasLines, line_at}
+use Rattle.cost_tree.specs.TreeLines.{line_at}
 use Rattle.massif_file.specs.TreeLine.{TreeLine}
 use Rattle.massif_tree.specs.LabelsIn.{line_in}
 use Rattle.massif_tree.specs.MassifTree.{massif_line, massif_tree}
