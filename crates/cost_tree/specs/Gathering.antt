@@ -4,9 +4,11 @@
 use Rattle.std.specs.Prelude.{◌≡◌, ℕ, ◌+◌, ◌^◌, ◌<◌, ◌≤◌, nat_lt, if◌then◌else◌, List, [], ◌∷◌, length, map, sum, sum_by}
 use Rattle.cost_tree.specs.declared.children.Gathered.{Gathered}
 use Rattle.cost_tree.specs.declared.line.CostLine.{CostLine}
+use Rattle.cost_tree.specs.declared.room.TreeRoom.{TreeRoom}
 use Rattle.cost_tree.specs.declared.scale.Scale.{Scale}
 use Rattle.cost_tree.specs.Costed.{Costed, costed}
 use Rattle.cost_tree.specs.CostLines.{FrontLine, gathered, cost_lines, cost_of}
+use Rattle.cost_tree.specs.CutState.{CutState}
 use Rattle.cost_tree.specs.SmallTexts.{with_gathered}
 use Rattle.cost_tree.specs.TreeLines.{HasLines, line_at}
 use Rattle.cost_tree.specs.TreeState.{TreeState}
@@ -27,11 +29,10 @@ pub record GathersSmall (depth : ℕ) (scale : Scale) (lists : List (List (List 
   pub lines : cost_lines depth scale (costed lists old)
       ≡ with_gathered (cost_lines depth scale (costed lists new)) (sum old) (lines_of few)
 
--- whichever costs a costing has
-abbrev pub GathersStated : (List ℕ → Type 0) → ℕ → Scale → List (List (List ℕ)) → List ℕ → Gathered
-    → Type 0
-GathersStated are_costs depth scale lists new few = (costs : List ℕ) → are_costs costs
-    → GathersSmall depth scale lists costs new few
+-- with those in a room, whichever costs a costing has
+abbrev pub Gathers : (List ℕ → Type 0) → ℕ → Scale → CutState → TreeRoom → Gathered → Type 0
+Gathers are_costs depth scale lists room few = (costs : List ℕ) → are_costs costs
+    → GathersSmall depth scale lists.whole costs room.costs.items few
 
 -- a tree, and what is gathered beside it, have the lines of stacks, to fronts of at most so many texts
 pub record HaveLines (scale : Scale) (tree : TreeState) (few : Gathered) (stacks : List Costed)

@@ -32,6 +32,13 @@ unfoldable pub count_below : (ℕ → Bool) → ℕ → ℕ
 count_below test zero = 0
 count_below test (suc n) = count_below test n + (if test n then 1 else 0)
 
+-- what is gathered with the cost of a list, and a place more where its first number costs something
+abbrev pub with_list : Gathered → ℕ → ℕ → Gathered
+with_list few cost shared = record {
+  places = few.places + (if nat_lt 0 shared then 1 else 0);
+  cost = few.cost + cost;
+}
+
 -- the costs of lists with these first numbers are made those that are left, and what is taken out is counted
 pub record TakesSmall (scale : Scale) (firsts old new : List ℕ) (few : Gathered) : Type 0 where
   pub as_many : length new ≡ length old

@@ -4,7 +4,7 @@ ghost use Rattle.std.specs.Prelude.{◌≡◌, ◌^◌, ◌≤◌, length, sum, 
 ghost use Rattle.cost_tree.specs.Costs.{HasCosts, IsStated};
 ghost use Rattle.cost_tree.specs.Texts.{AreTexts, lists_of};
 ghost use Rattle.cost_tree.specs.CutState.{HasWholeLines};
-ghost use Rattle.cost_tree.specs.Gathering.{GathersSmall, GathersStated};
+ghost use Rattle.cost_tree.specs.Gathering.{Gathers, GathersSmall};
 
 use crate::chains::Chains;
 use crate::children::Gathered;
@@ -88,8 +88,7 @@ impl CutFronts {
         requires as_many { costing.now.stacks ≡ length self.now.whole }
         requires stated { IsStated F.pre F.post costing.now }
         ensures gathered { IfOk result
-            (GathersStated (HasCosts F.pre F.post costing.now) depth scale self.now.whole
-            room.new.costs.items) }
+            (Gathers (HasCosts F.pre F.post costing.now) depth scale self.now room.new) }
     {
         let TreeRoom { costs, firsts, .. } = room;
         costing.list_into(costs)?;

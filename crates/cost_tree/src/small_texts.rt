@@ -3,7 +3,7 @@
 ghost use Rattle.std.specs.Prelude.{◌≡◌, ◌+◌, ◌-◌, ◌^◌, ◌<◌, ◌≤◌, ◌&&◌, All, if◌then◌else◌, length, map, nat_lt, sum, IfOk};
 ghost use Rattle.cost_tree.specs.CostLines.{is_small};
 ghost use Rattle.cost_tree.specs.CutShapes.{AreEndedCosts};
-ghost use Rattle.cost_tree.specs.SmallCosts.{TakesSmall, first_number};
+ghost use Rattle.cost_tree.specs.SmallCosts.{TakesSmall, first_number, with_list};
 
 use crate::chains::Chains;
 use crate::children::Gathered;
@@ -76,10 +76,7 @@ fn is_left_out(first: usize, cost: u64, shared: u64, scale: Scale) -> bool
 fn with_list(gathered: Gathered, cost: u64, shared: u64) -> Gathered
     requires places { gathered.places < 2 ^ 64 - 1 }
     requires cost { gathered.cost + cost < 2 ^ 64 }
-    ensures { result ≡ record {
-      places = gathered.places + (if nat_lt 0 shared then 1 else 0);
-      cost = gathered.cost + cost;
-    } }
+    ensures { result ≡ with_list gathered cost shared }
 {
     Gathered {
         places: gathered.places + u64::from(shared > 0),
