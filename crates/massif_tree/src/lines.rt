@@ -1,12 +1,10 @@
 //! The lines of a snapshot's tree, as its file has them.
 //! Which places have lines of their own, and in which order, is `cost_tree`'s part.
 ghost use Rattle.std.specs.Prelude.{◌≡◌, ◌<◌, [], List, length, IfOk};
-ghost use Rattle.cost_tree.specs.Costed.{Costed};
-ghost use Rattle.cost_tree.specs.Gathering.{HaveLines};
 ghost use Rattle.cost_tree.specs.TreeLines.{front_at};
 ghost use Rattle.massif_file.specs.TreeLine.{line_of};
-ghost use Rattle.massif_tree.specs.LabelsIn.{AreLinesOfBoth, line_in};
-ghost use Rattle.massif_tree.specs.MassifTree.{label_of, scale_of};
+ghost use Rattle.massif_tree.specs.LabelsIn.{AreLinesOfBoth, HaveSomeLines, line_in};
+ghost use Rattle.massif_tree.specs.MassifTree.{label_of};
 
 use crate::labels::{put_gathered_label, root_label};
 use crate::options::TreeOptions;
@@ -26,8 +24,7 @@ pub(crate) fn tree_lines(
     options: &TreeOptions,
     total: u64,
 ) -> Result<Tree, NoMemory>
-    requires both { (stacks : List Costed)
-        × HaveLines (scale_of options.now total) tree.now gathered stacks options.now.depth }
+    requires both { HaveSomeLines options.now total tree.now gathered }
     ensures lines { IfOk result (AreLinesOfBoth options.now total tree.now gathered) }
 {
     let scale = Scale {
