@@ -8,3 +8,4 @@ pub mod FaultText
 pub mod ViewText
 pub mod LinesIn
 pub mod AreViewSums
+pub mod ArePartsOf

@@ -7,10 +7,8 @@ use Rattle.cost_tree.specs.Costed.{Costed}
 use Rattle.cost_tree.specs.TreeLines.{HasLines, IsPlace, line_at}
 use Rattle.cost_tree.specs.TreeState.{TreeState}
 use Rattle.dhat_view.specs.declared.options.ViewOptions.{ViewOptions}
-use Rattle.dhat_json.specs.declared.profile.Dhat.{Dhat}
 use Rattle.dhat_view.specs.Lines.{line_text}
 use Rattle.dhat_view.specs.TreeText.{scale_of, tree_text}
-use Rattle.dhat_view.specs.ViewText.{fronts_with_costs}
 
 -- the tree is that of the stacks, which cost so much together, and its numbers fit
 pub record IsViewed (total : ℕ) (tree : TreeState) (stacks : List Costed) (depth : ℕ) : Type 0 where
@@ -36,8 +34,3 @@ abbrev pub GainsTree : ℕ → ViewOptions → TreeState → List ℕ → List �
 GainsTree total options tree old new = (stacks : List Costed)
     → IsViewed total tree stacks options.depth
     → new ≡ old ++ tree_text options.depth (scale_of total options.threshold) stacks
-
--- the tree has the lines of the points, with their figures as costs, to so many frames
-abbrev pub IsTreeOfPoints : ViewOptions → Dhat → TreeState → Type 0
-IsTreeOfPoints options dhat tree =
-    HasLines tree (fronts_with_costs options.key dhat) options.depth

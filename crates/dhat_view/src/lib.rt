@@ -7,12 +7,13 @@
 //! figures of a key as costs, a line for each line of `cost_tree` but the first. `HasViewSums` says what these lines are:
 //! of a front the sum of the points that begin with it, of gathered places their sum and number. `view_fault` says why a
 //! profile has no view: its points have no figures of the key, or these sum to more than 2^62. Both come exactly then
-//! (`refused`), take no memory, and leave the vector as it was, as `NoMemory` does. The tests of these calls are runs of
-//! `dhat_view` in the crate `commands_tests`.
+//! (`refused`), take no memory, and leave the vector as it was, as `NoMemory` does. `ViewParts` are what a view shows of a
+//! profile (`ArePartsOf`), so that the profile may be let go between `of`, which reads them, and `put`, which appends the same view.
+//! The tests of these calls are runs of `dhat_view` in the crate `commands_tests`.
 //!
 //! | File | Does |
 //! |---|---|
-//! | `view.rt` | the view: its head, and its tree |
+//! | `view.rt`, `parts.rt` | the view of a profile, and of what was read of one; what is read, and the view's head |
 //! | `fronts.rt`, `texts.rt` | the points' frames as lists of texts; shown texts under numbers |
 //! | `sums.rt` | what the points cost together |
 //! | `tree.rt`, `lines.rt` | the lines of the tree; one line |
@@ -23,6 +24,7 @@ mod fault;
 mod fronts;
 mod lines;
 mod options;
+mod parts;
 mod sums;
 mod texts;
 mod tree;
@@ -31,6 +33,7 @@ mod view;
 pub use fault::ViewFault;
 pub use fronts::fronts_of;
 pub use options::ViewOptions;
+pub use parts::ViewParts;
 pub use sums::{figure_at, figures_sum};
 pub use texts::{ShownTexts, shown_table};
 pub use view::put_view;

@@ -1,8 +1,10 @@
 //! What the points of a profile cost together.
-ghost use Rattle.std.specs.Prelude.{◌≡◌, ◌<◌, ◌≤◌, ◌^◌, IfSome, IfNone, slice_get, Some, length, sum};
+ghost use Rattle.std.specs.Prelude.{◌≡◌, ◌<◌, ◌≤◌, ◌^◌, IfOk, IfSome, IfNone, slice_get, Some, length, sum};
 ghost use Rattle.dhat_view.specs.PointCosts.{point_costs};
 
 use dhat_json::{Dhat, FigureKey};
+use hp_num::NoMemory;
+use std::alloc::Global;
 
 /// The greatest sum of figures that has a view.
 const MOST: u128 = 1 << 62;
@@ -31,4 +33,15 @@ pub fn figure_at(key: FigureKey, dhat: &Dhat, place: usize) -> u64
     ensures figure { slice_get (point_costs key dhat.now) place ≡ Some result }
 {
     dhat.pps.at(place).figure(key).unwrap_or(0)
+}
+
+/// The figures of the points, which the profile must have; 0 where it hasn't. `NoMemory` where memory is wanting.
+pub(crate) fn figures(alloc: Global, key: FigureKey, dhat: &Dhat) -> Result<Vec<u64>, NoMemory>
+    ensures { IfOk result (λ figures. figures.items ≡ point_costs key dhat.now) }
+{
+    let mut figures = Vec::with_capacity(alloc, dhat.pps.len())?;
+    'each_point: for place in 0..dhat.pps.len() {
+        figures.push(figure_at(key, dhat, place))?;
+    }
+    Ok(figures)
 }

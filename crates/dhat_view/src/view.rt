@@ -1,24 +1,23 @@
-//! The view of a profile: its head, and the tree of its points' costs.
+//! The view of a profile, and of what was read of one.
 #![tactic(auto, using(hp_num::proofs::Laws::extends_same, hp_num::proofs::Laws::extends_more, hp_num::proofs::Laws::extends_trans))]
 
-ghost use Rattle.std.specs.Prelude.{◌≡◌, ◌<◌, ◌≤◌, ◌^◌, ◌++◌, sum, Some, None, IfErr, IfOk, OnErr, OnOk};
+ghost use Rattle.std.specs.Prelude.{◌≡◌, ◌≤◌, ◌^◌, ◌++◌, length, sum, None, IfErr, IfOk, OnErr, OnOk};
+ghost use Rattle.cost_tree.specs.Costed.{costed};
+ghost use Rattle.cost_tree.specs.TreeLines.{HasLines};
 ghost use Rattle.dhat_json.specs.IsSound.{IsSound};
 ghost use Rattle.hp_num.specs.Extends.{Extends};
+ghost use Rattle.dhat_view.specs.ArePartsOf.{AreParts, GainsSumsOf, GainsViewOf};
 ghost use Rattle.dhat_view.specs.AreViewSums.{GainsView};
-ghost use Rattle.dhat_view.specs.LinesIn.{IsTreeOfPoints};
-ghost use Rattle.dhat_view.specs.PointCosts.{point_costs};
-ghost use Rattle.dhat_view.specs.PointFronts.{point_fronts};
 ghost use Rattle.dhat_view.specs.ViewFault.{IsFaultOf, IsRefused, view_fault};
-ghost use Rattle.dhat_view.specs.ViewText.{head_text, points_text, total_text, view_by};
+ghost use Rattle.dhat_view.specs.ViewText.{view_by};
 
 use crate::fault::ViewFault;
-use crate::fronts::fronts_of;
 use crate::options::ViewOptions;
-use crate::sums::{figure_at, figures_sum};
+use crate::parts::ViewParts;
 use crate::tree::put_tree;
 use cost_tree::{CostTree, Costing, Fronts};
-use dhat_json::{Dhat, FigureKey, put_shown};
-use hp_num::{NoMemory, put_bytes, put_dec};
+use dhat_json::Dhat;
+use hp_num::{NoMemory, put_bytes};
 use std::alloc::Global;
 
 /// Appends the view of the profile: its command, how many points it has, the sum of the key's figures, an empty line, and
@@ -46,91 +45,69 @@ pub fn put_view(
     ensures refused { IsRefused (view_fault options.now.key dhat.now) result }
     ensures unchanged { OnErr result (out.new.items ≡ out.old.items) }
 {
-    if !dhat.has_figures(options.key) {
-        return Err(ViewFault::NoFigures);
+    match ViewParts::of(alloc, options, dhat) {
+        Ok(parts) => match parts.put(alloc, out) {
+            Ok(()) => Ok(()),
+            Err(NoMemory) => Err(ViewFault::NoMemory),
+        },
+        Err(fault) => Err(fault),
     }
-    let Some(total) = figures_sum(options.key, dhat) else {
-        return Err(ViewFault::TooLarge);
-    };
-    let start = out.len();
-    match put_text(alloc, options, dhat, total, out) {
-        Ok(()) => Ok(()),
-        Err(NoMemory) => {
-            out.truncate(start);
-            Err(ViewFault::NoMemory)
+}
+
+impl ViewParts {
+    /// Appends the view of the profile that the parts were read of, as `put_view` does, and lets each part go once it isn't needed.
+    /// On `NoMemory`, `out` holds what it held before.
+    pub fn put(self, alloc: Global, out: &mut Vec<u8>) -> Result<(), NoMemory>
+        requires parts { AreParts self }
+        ensures appended { OnOk result (GainsViewOf self out.old.items out.new.items) }
+
+        // Each line of a front has the sum over the points that begin with it, and one of gathered places their sum and number.
+        ensures sums { OnOk result (GainsSumsOf self out.old.items out.new.items) }
+
+        ensures unchanged { OnErr result (out.new.items ≡ out.old.items) }
+    {
+        let start = out.len();
+        match put_parts(alloc, self, out) {
+            Ok(()) => Ok(()),
+            Err(NoMemory) => {
+                out.truncate(start);
+                Err(NoMemory)
+            }
         }
     }
 }
 
 /// Appends the head and the tree. On `NoMemory`, some of it may stand at the end of `out`.
-fn put_text(
-    alloc: Global,
-    options: &ViewOptions,
-    dhat: &Dhat,
-    total: u64,
-    out: &mut Vec<u8>,
-) -> Result<(), NoMemory>
-    requires sound { IsSound dhat.now }
-    requires total { total ≡ sum (point_costs options.now.key dhat.now) }
-    requires within { total ≤ 2 ^ 62 }
-    ensures appended { OnOk result
-        (out.new.items ≡ out.old.items ++ view_by options.now dhat.now) }
+fn put_parts(alloc: Global, parts: ViewParts, out: &mut Vec<u8>) -> Result<(), NoMemory>
+    requires parts { AreParts parts }
+    ensures appended { OnOk result (GainsViewOf parts out.old.items out.new.items) }
     ensures kept { Extends out.old.items out.new.items }
 {
-    put_head(options.key, dhat, total, out)?;
-    let fronts = fronts_of(alloc, dhat)?;
-    let tree = fronts_tree(alloc, options, dhat, &fronts)?;
-    put_tree(alloc, options, total, &tree, out)
+    let ViewParts {
+        options,
+        head,
+        total,
+        fronts,
+        costs,
+    } = parts;
+    put_bytes(out, &head)?;
+    drop(head);
+    let tree = fronts_tree(alloc, options.depth, &fronts, &costs)?;
+    drop(costs);
+    put_tree(alloc, &options, total, &tree, out)
 }
 
-/// Appends what stands before the tree.
-fn put_head(key: FigureKey, dhat: &Dhat, total: u64, out: &mut Vec<u8>) -> Result<(), NoMemory>
-    ensures appended { OnOk result (out.new.items ≡ out.old.items ++ head_text key dhat.now total) }
-    ensures kept { Extends out.old.items out.new.items }
-{
-    put_points(dhat, out)?;
-    put_total(key, total, out)
-}
-
-/// Appends the command and the number of points.
-fn put_points(dhat: &Dhat, out: &mut Vec<u8>) -> Result<(), NoMemory>
-    ensures appended { OnOk result (out.new.items ≡ out.old.items ++ points_text dhat.now) }
-    ensures kept { Extends out.old.items out.new.items }
-{
-    put_bytes(out, b"command: ")?;
-    put_shown(dhat.cmd.bytes(), out)?;
-    put_bytes(out, b"\npoints: ")?;
-    put_dec(out, dhat.pps.len() as u64)?;
-    put_bytes(out, b"\n")
-}
-
-/// Appends the sum of the figures, and an empty line.
-fn put_total(key: FigureKey, total: u64, out: &mut Vec<u8>) -> Result<(), NoMemory>
-    ensures appended { OnOk result (out.new.items ≡ out.old.items ++ total_text key total) }
-    ensures kept { Extends out.old.items out.new.items }
-{
-    put_bytes(out, key.key().name().as_bytes())?;
-    put_bytes(out, b": ")?;
-    put_dec(out, total)?;
-    put_bytes(out, b"\n\n")
-}
-
-/// The tree of these fronts, which are the points', with the points' figures as costs.
+/// The tree of these fronts with these costs, to so many frames.
 fn fronts_tree<'a>(
     alloc: Global,
-    options: &ViewOptions,
-    dhat: &Dhat,
+    depth: u32,
     fronts: &'a Fronts,
+    costs: &[u64],
 ) -> Result<CostTree<'a>, NoMemory>
-    requires fronts { fronts.now ≡ point_fronts dhat.now }
-    requires within { sum (point_costs options.now.key dhat.now) ≤ 2 ^ 62 }
-    ensures tree { IfOk result (IsTreeOfPoints options.now dhat.now) }
+    requires as_many { length costs.now ≡ length fronts.now }
+    requires within { sum costs.now ≤ 2 ^ 62 }
+    ensures tree { IfOk result (λ tree. HasLines tree (costed fronts.now costs.now) depth) }
 {
-    let key = options.key;
-    let depth = options.depth;
-    let costing = Costing::new(
-        fronts.len(),
-        |point: u32| figure_at(key, dhat, point as usize),
-    );
+    let costing = Costing::new(fronts.len(), |point: u32| costs[point as usize]);
     CostTree::of_fronts(alloc, fronts, &costing, depth)
 }

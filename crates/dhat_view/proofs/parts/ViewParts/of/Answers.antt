@@ -3,10 +3,8 @@ use Rattle.std.proofs.lemmas.Option.{none-some, same_Some}
 use Rattle.dhat_view.specs.declared.fault.ViewFault.TheVariants.{NoFigures, TooLarge}
 use Rattle.dhat_view.proofs.Faults.{no-fault, no-figures, too-large}
 use Rattle.dhat_view.specs.ViewFault.{view_fault}
-use Rattle.dhat_view.specs.ViewText.{view_text}
-use Rattle.dhat_view.proofs.ViewSums.{text-sums}
-use Rattle.dhat_view.proofs.view.put_view.Goals as goal
-use Rattle.dhat_view.proofs.view.put_view.Goals.{In-Some}
+use Rattle.dhat_view.proofs.parts.ViewParts.of.Goals as goal
+use Rattle.dhat_view.proofs.parts.ViewParts.of.Goals.{In-Some}
 
 pub returns-then-not-has_figures-clause-fault : goal.returns-then-not-has_figures-clause-fault
 returns-then-not-has_figures-clause-fault c =
@@ -31,14 +29,6 @@ returns-in_default-clause-refused c = λ fault is.
     (sym (too-large c.args.options.now.key c.args.dhat.now
     (sym c.has_figures.ensures.told ∙ c.if-not-has_figures.false) c.in_default.ensures.too_large)
     ∙ is))
-
-pub returns-in-Ok-clause-sums : goal.returns-in-Ok-clause-sums
-returns-in-Ok-clause-sums c =
-    let key = c.args.options.now.key in
-    let threshold = c.args.options.now.threshold in
-    let depth = c.args.options.now.depth in
-    let dhat = c.args.dhat.now in
-    (view_text key threshold depth dhat, text-sums key threshold depth dhat, c.in-Ok.ensures.appended)
 
 -- nothing stands against the view where the sum is at most 2^62
 small : (c : In-Some) → view_fault c.args.options.now.key c.args.dhat.now ≡ None

@@ -5,7 +5,7 @@ use Rattle.dhat_json.specs.Shown.{shown}
 use Rattle.hp_num.proofs.Laws.{extends_more, extends_put, extends_same, extends_trans}
 use Rattle.dhat_view.specs.ViewText.{points_text}
 use Rattle.dhat_view.proofs.Appends.{five-appended}
-use Rattle.dhat_view.proofs.view.put_points.Goals as goal
+use Rattle.dhat_view.proofs.parts.put_points.Goals as goal
 
 pub returns-clause-appended : goal.returns-clause-appended
 unfolding points_text

@@ -1,7 +1,7 @@
 use Rattle.std.proofs.lemmas.Result.{on_ok_weaker}
 use Rattle.dhat_view.specs.ViewText.{head_text, points_text, total_text}
 use Rattle.dhat_view.proofs.Appends.{two-appended}
-use Rattle.dhat_view.proofs.view.put_head.Goals as goal
+use Rattle.dhat_view.proofs.parts.put_head.Goals as goal
 
 pub returns-clause-appended : goal.returns-clause-appended
 unfolding head_text

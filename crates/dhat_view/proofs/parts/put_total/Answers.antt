@@ -7,7 +7,7 @@ use Rattle.dhat_json.specs.KeyName.{key_name}
 use Rattle.hp_num.proofs.Laws.{extends_more, extends_put, extends_same, extends_trans}
 use Rattle.dhat_view.specs.ViewText.{total_text}
 use Rattle.dhat_view.proofs.Appends.{four-appended}
-use Rattle.dhat_view.proofs.view.put_total.Goals as goal
+use Rattle.dhat_view.proofs.parts.put_total.Goals as goal
 
 pub returns-clause-appended : goal.returns-clause-appended
 unfolding total_text
