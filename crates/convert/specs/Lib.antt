@@ -9,3 +9,4 @@ pub mod FaultText
 pub mod AreTreeSums
 pub mod Numbers
 pub mod Levels
+pub mod PointSums

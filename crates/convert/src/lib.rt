@@ -6,7 +6,8 @@
 //! - `put_folded_dhat` appends the folded lines of a profile's points by a figure (`folded_text` of `point_items`), and
 //!   `put_folded_massif` those of a snapshot's tree (`chosen_items`): a line for each list of texts, from the outermost to
 //!   the innermost, with what is held by exactly that list. The law beside both says so in one sentence (`AreFolded`): for
-//!   each list the sum of the items with that list, and no line for a list whose sum is 0.
+//!   each list the sum of the items with that list, and no line for a list whose sum is 0. `PointSums` are what is read of a DHAT
+//!   profile for its lines, so that it may be let go before they are written.
 //! - `massif_of_dhat` gives the Massif profile of a DHAT profile (`converted`), which may be written. Its trees have for
 //!   each front of at most 200 texts the sum of the points that begin with it (`HaveTreeSums`).
 //! - Each fault comes exactly where its definition says (`folded_fault`, `folded_massif_fault`, `converted_fault`), unless
@@ -39,4 +40,4 @@ mod points;
 pub use converted::massif_of_dhat;
 pub use fault::ConvertFault;
 pub use massif::put_folded_massif;
-pub use points::put_folded_dhat;
+pub use points::{PointSums, put_folded_dhat};

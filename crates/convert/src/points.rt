@@ -1,15 +1,15 @@
 //! The folded lines of a DHAT profile: its points by the texts of their frames, with a figure.
-#![tactic(auto, using(hp_num::proofs::Laws::extends_same, hp_num::proofs::Laws::extends_more, hp_num::proofs::Laws::extends_trans))]
 
-ghost use Rattle.std.specs.Prelude.{◌≡◌, ◌<◌, ◌≤◌, ◌^◌, ◌++◌, All, length, map, slice_index, sum, Some, None, IfErr, IfOk, OnErr, OnOk};
+ghost use Rattle.std.specs.Prelude.{◌≡◌, ◌<◌, ◌≤◌, ◌^◌, ◌++◌, All, List, length, map, slice_index, sum, Some, None, IfErr, IfOk, OnErr, OnOk};
+ghost use Rattle.cost_tree.specs.Costed.{Costed};
 ghost use Rattle.dhat_json.specs.IsSound.{IsSound};
 ghost use Rattle.dhat_view.specs.PointCosts.{point_costs};
-ghost use Rattle.hp_num.specs.Extends.{Extends};
 ghost use Rattle.convert.specs.AreFolded.{GainsLines};
 ghost use Rattle.convert.specs.ConvertFault.{IsFaultOf, IsRefused, folded_fault};
 ghost use Rattle.convert.specs.Folded.{folded_text};
 ghost use Rattle.convert.specs.Items.{point_items};
 ghost use Rattle.convert.specs.Numbers.{SumsUp};
+ghost use Rattle.convert.specs.PointSums.{AreSumsOf, GainsFolded, GainsLinesOf};
 
 use crate::fault::ConvertFault;
 use crate::lines::put_lines;
@@ -44,32 +44,61 @@ pub fn put_folded_dhat(
     ensures refused { IsRefused (folded_fault key dhat.now) result }
     ensures unchanged { OnErr result (out.new.items ≡ out.old.items) }
 {
-    if !dhat.has_figures(key) {
-        return Err(ConvertFault::NoFigures);
-    }
-    let Some(_total) = figures_sum(key, dhat) else {
-        return Err(ConvertFault::TooLarge);
-    };
-    let start = out.len();
-    match put_points(alloc, key, dhat, out) {
-        Ok(()) => Ok(()),
-        Err(NoMemory) => {
-            out.truncate(start);
-            Err(ConvertFault::NoMemory)
-        }
+    match PointSums::of(alloc, key, dhat) {
+        Ok(sums) => match sums.put(out) {
+            Ok(()) => Ok(()),
+            Err(NoMemory) => Err(ConvertFault::NoMemory),
+        },
+        Err(fault) => Err(fault),
     }
 }
 
-/// Appends the lines. On `NoMemory`, some of them may stand at the end of `out`.
-fn put_points(alloc: Global, key: FigureKey, dhat: &Dhat, out: &mut Vec<u8>) -> Result<(), NoMemory>
-    requires sound { IsSound dhat.now }
-    requires within { sum (point_costs key dhat.now) ≤ 2 ^ 62 }
-    ensures appended { OnOk result
-        (out.new.items ≡ out.old.items ++ folded_text (point_items key dhat.now)) }
-    ensures kept { Extends out.old.items out.new.items }
-{
-    let sums = point_sums(alloc, key, dhat)?;
-    put_lines(&sums, out)
+/// What the points of a profile cost together by their lists of texts: what is read of it for its folded lines.
+#[derive(Drop)]
+pub struct PointSums {
+    pub(crate) sums: ListSums,
+}
+
+impl PointSums {
+    /// The sums of the figures of the key, where the profile is as `put_folded_dhat` says. Its faults are those of that call.
+    pub fn of(alloc: Global, key: FigureKey, dhat: &Dhat) -> Result<PointSums, ConvertFault>
+        requires sound { IsSound dhat.now }
+        ensures sums { IfOk result (AreSumsOf (point_items key dhat.now)) }
+        ensures no_fault { OnOk result (folded_fault key dhat.now ≡ None) }
+        ensures fault { IfErr result (λ fault. IsFaultOf (folded_fault key dhat.now) fault) }
+        ensures refused { IsRefused (folded_fault key dhat.now) result }
+    {
+        if !dhat.has_figures(key) {
+            return Err(ConvertFault::NoFigures);
+        }
+        let Some(_total) = figures_sum(key, dhat) else {
+            return Err(ConvertFault::TooLarge);
+        };
+        match point_sums(alloc, key, dhat) {
+            Ok(sums) => Ok(PointSums { sums }),
+            Err(NoMemory) => Err(ConvertFault::NoMemory),
+        }
+    }
+
+    /// Appends the folded lines of the profile that the sums were read of. On `NoMemory`, `out` holds what it held before.
+    pub fn put(&self, out: &mut Vec<u8>) -> Result<(), NoMemory>
+        requires sums { (items : List Costed) × AreSumsOf items self.now }
+        ensures appended { OnOk result (GainsFolded self.now out.old.items out.new.items) }
+
+        // For each list the lines have the sum of the items with that list, and a list whose sum is 0 has no line.
+        ensures sums { OnOk result (GainsLinesOf self.now out.old.items out.new.items) }
+
+        ensures unchanged { OnErr result (out.new.items ≡ out.old.items) }
+    {
+        let start = out.len();
+        match put_lines(&self.sums, out) {
+            Ok(()) => Ok(()),
+            Err(NoMemory) => {
+                out.truncate(start);
+                Err(NoMemory)
+            }
+        }
+    }
 }
 
 /// The sums of the points' figures by their lists.

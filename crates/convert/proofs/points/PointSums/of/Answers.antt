@@ -1,14 +1,10 @@
-use Rattle.std.proofs.Common.{◌≡◌, arith, Err, List, None, sym, ap, ◌∙◌}
+use Rattle.std.proofs.Common.{◌≡◌, arith, Err, None, sym, ap, ◌∙◌}
 use Rattle.std.proofs.lemmas.Option.{none-some, same_Some}
 use Rattle.convert.specs.declared.fault.ConvertFault.TheVariants.{NoFigures, TooLarge}
 use Rattle.convert.proofs.Faults.{no-fault, no-figures, too-large}
-use Rattle.cost_tree.specs.Costed.{Costed}
 use Rattle.convert.specs.ConvertFault.{folded_fault}
-use Rattle.convert.specs.Folded.{folded_sums, folded_text}
-use Rattle.convert.specs.Items.{point_items}
-use Rattle.convert.proofs.FoldedLaws.{are-folded}
-use Rattle.convert.proofs.points.put_folded_dhat.Goals as goal
-use Rattle.convert.proofs.points.put_folded_dhat.Goals.{In-Some}
+use Rattle.convert.proofs.points.PointSums.of.Goals as goal
+use Rattle.convert.proofs.points.PointSums.of.Goals.{In-Some}
 
 pub returns-then-not-has_figures-clause-fault : goal.returns-then-not-has_figures-clause-fault
 returns-then-not-has_figures-clause-fault c =
@@ -47,9 +43,3 @@ returns-in-Ok-clause-refused c = λ fault is.
 pub returns-in-Err-clause-refused : goal.returns-in-Err-clause-refused
 returns-in-Err-clause-refused c = λ fault is.
     absurd (none-some fault (sym (small (goal.at.returns-in-Err-clause-refused c).In-Some) ∙ is))
-
-pub returns-in-Ok-clause-sums : goal.returns-in-Ok-clause-sums
-unfolding folded_text
-returns-in-Ok-clause-sums c =
-    let items : List Costed = point_items c.args.key c.args.dhat.now in
-    (folded_sums items, are-folded items, c.in-Ok.ensures.appended)
