@@ -8,7 +8,7 @@ use crate::document_fault::DocumentFault;
 use crate::massif_file_fault::MassifFileFault;
 use crate::massif_file_report::MassifFileReport;
 use command_frame::LineRefusal;
-use convert::{ConvertFault, massif_of_dhat, put_folded_dhat, put_folded_massif};
+use convert::{ConvertFault, PointSums, massif_of_dhat, put_folded_massif};
 use dhat_json::{Dhat, FigureKey};
 use massif_file::{Profile, put_profile};
 use std::alloc::Global;
@@ -22,12 +22,16 @@ pub struct FoldedPoints {
 impl DhatFileReport for FoldedPoints {
     ghost verdict = { λ points. folded_verdict points.key };
 
-    fn report(&self, alloc: Global, dhat: &Dhat) -> Result<Vec<u8>, LineRefusal<DocumentFault>> {
+    fn report(&self, alloc: Global, dhat: Dhat) -> Result<Vec<u8>, LineRefusal<DocumentFault>> {
+        let read = PointSums::of(alloc, self.key, &dhat);
+        drop(dhat);
+        let sums = match read {
+            Ok(sums) => sums,
+            Err(fault) => return Err(dhat_refusal(fault, self.key)),
+        };
         let mut folded = Vec::new(alloc);
-        match put_folded_dhat(alloc, self.key, dhat, &mut folded) {
-            Ok(()) => Ok(folded),
-            Err(fault) => Err(dhat_refusal(fault, self.key)),
-        }
+        sums.put(&mut folded)?;
+        Ok(folded)
     }
 }
 
@@ -38,8 +42,10 @@ pub struct PointsOverTime;
 impl DhatFileReport for PointsOverTime {
     ghost verdict = { λ _. converted_verdict };
 
-    fn report(&self, alloc: Global, dhat: &Dhat) -> Result<Vec<u8>, LineRefusal<DocumentFault>> {
-        let profile = match massif_of_dhat(alloc, dhat) {
+    fn report(&self, alloc: Global, dhat: Dhat) -> Result<Vec<u8>, LineRefusal<DocumentFault>> {
+        let converted = massif_of_dhat(alloc, &dhat);
+        drop(dhat);
+        let profile = match converted {
             Ok(profile) => profile,
             Err(fault) => return Err(dhat_refusal(fault, FigureKey::Gb)),
         };

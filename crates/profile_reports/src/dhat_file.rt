@@ -20,12 +20,13 @@ pub trait DhatFileReport {
     /// What it makes of a profile.
     ghost verdict: { Self → Dhat → Verdict };
 
-    /// The whole output, or the fault of the profile. `NoMemory` where memory is wanting.
-    fn report(&self, alloc: Global, dhat: &Dhat) -> Result<Vec<u8>, LineRefusal<DocumentFault>>
-        requires { IsSound dhat.now }
-        ensures output { IfOk result (λ output. verdict self.now dhat.now ≡ Writes output.items) }
+    /// The whole output, or the fault of the profile, which may be let go before the output is made. `NoMemory` where memory is
+    /// wanting.
+    fn report(&self, alloc: Global, dhat: Dhat) -> Result<Vec<u8>, LineRefusal<DocumentFault>>
+        requires { IsSound dhat }
+        ensures output { IfOk result (λ output. verdict self.now dhat ≡ Writes output.items) }
         ensures fault { IfErr result
-            (λ refusal. Refuses told refusal (verdict self.now dhat.now)) };
+            (λ refusal. Refuses told refusal (verdict self.now dhat)) };
 }
 
 /// The document of a profile, and what makes the output of it.
@@ -43,7 +44,7 @@ impl<R: DhatFileReport> DocumentReport for DhatFile<R> {
         let read = read_profile(alloc, bytes.bytes());
         drop(bytes);
         match read {
-            Ok(dhat) => self.report.report(alloc, &dhat),
+            Ok(dhat) => self.report.report(alloc, dhat),
             Err(fault) => Err(document_refusal(fault)),
         }
     }

@@ -6,7 +6,7 @@ use crate::dhat_file::DhatFileReport;
 use crate::document_fault::DocumentFault;
 use command_frame::LineRefusal;
 use dhat_json::{Dhat, FigureKey};
-use dhat_view::{ViewFault, ViewOptions, put_view};
+use dhat_view::{ViewFault, ViewOptions, ViewParts};
 use std::alloc::Global;
 
 /// Makes the view of a profile.
@@ -19,12 +19,16 @@ impl DhatFileReport for ViewReport {
     ghost verdict = { λ report.
         view_verdict report.options.key report.options.threshold report.options.depth };
 
-    fn report(&self, alloc: Global, dhat: &Dhat) -> Result<Vec<u8>, LineRefusal<DocumentFault>> {
+    fn report(&self, alloc: Global, dhat: Dhat) -> Result<Vec<u8>, LineRefusal<DocumentFault>> {
+        let read = ViewParts::of(alloc, &self.options, &dhat);
+        drop(dhat);
+        let parts = match read {
+            Ok(parts) => parts,
+            Err(fault) => return Err(view_refusal(fault, self.options.key)),
+        };
         let mut view = Vec::new(alloc);
-        match put_view(alloc, &self.options, dhat, &mut view) {
-            Ok(()) => Ok(view),
-            Err(fault) => Err(view_refusal(fault, self.options.key)),
-        }
+        parts.put(alloc, &mut view)?;
+        Ok(view)
     }
 }
 
