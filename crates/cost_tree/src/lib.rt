@@ -10,8 +10,8 @@
 //!   is to answer is said at each call that uses it.
 //! - `CostTree::of_fronts` gives the tree of the lists with their costs (`IsTreeOf`): one node for each front of at
 //!   most `depth` texts whose cost isn't 0, and node 0 for the empty one.
-//! - `CostTree::of_lists` gives it for lists that are told, with their texts for its own, and looks for their fronts only then. The
-//!   lists of a trace's stacks are the business of `stack_trees`.
+//! - `CostTree::of_own` gives it with the texts of the lists for its own, and lets go all else of them; `CostTree::of_lists` for lists
+//!   that are told, whose fronts it looks for only then. The lists of a trace's stacks are the business of `stack_trees`.
 //! - `CutFronts` keeps lists cut behind fronts that have no line. `gather_small` lists what they cost without those whose first
 //!   text is too small as a whole, and counts these (`Gathered`). `lengthen` makes the lists so long that the lines of `of_cut`'s
 //!   tree are those of the whole lists, with these costs. Its lists are made of names and of lists of their numbers that go on with
@@ -43,7 +43,7 @@
 //! | `costing.rt`, `frame_test.rt` | what each stack costs, and which names are meant, by closures |
 //! | `branches.rt`, `summing.rt` | a tree that grows along a shape; what its nodes cost with those below them |
 //! | `linked.rt`, `links.rt`, `child_nodes.rt` | its nodes with the links to their children; how many children a node has |
-//! | `tree.rt`, `node.rt`, `held_names.rt` | the tree, one node, and whose names it has |
+//! | `tree.rt`, `own_tree.rt`, `node.rt`, `held_names.rt` | the tree; that of lists that are let go; one node, and whose names it has |
 //! | `room.rt` | the vectors that trees are made in, one after another |
 //! | `scale.rt`, `line.rt`, `line_taker.rt` | what costs are measured by; a line; what takes lines |
 //! | `children.rt`, `lines.rt` | which children of a node have lines of their own; the walk that gives the lines |
@@ -76,6 +76,7 @@ mod linked;
 mod links;
 mod list_step;
 mod node;
+mod own_tree;
 mod room;
 mod scale;
 mod shape;

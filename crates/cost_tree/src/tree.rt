@@ -33,9 +33,9 @@ use std::mem;
 /// it was made of, or its own where these were let go.
 #[derive(Drop)]
 pub struct CostTree<'a> {
-    names: HeldNames<'a>,
-    nodes: Vec<CostNode>,
-    links: Links,
+    pub(crate) names: HeldNames<'a>,
+    pub(crate) nodes: Vec<CostNode>,
+    pub(crate) links: Links,
 }
 
 impl<'a> Model for CostTree<'a> {
@@ -107,23 +107,8 @@ impl<'a> CostTree<'a> {
         requires bound { sum costs.now ≤ 2 ^ 62 }
         ensures tree { IfOk result (λ tree. IsTreeOf tree (costed lists costs.now) depth) }
     {
-        let Fronts { names, shape } = lists.fronts(alloc)?;
-        // Says that no two names are equal.
-        let _count = names.len();
-        let Shape { edges, ends } = shape;
-        // The index of the edges is let go before the tree grows.
-        let edges = edges.into_list();
-        let room = Branches::new(alloc);
-        let grown = Branches::of(room, &edges, &ends, costs, depth as usize)?;
-        drop(edges);
-        drop(ends);
-        let branches = grown.settled(alloc);
-        let Linked { nodes, links, .. } = Linked::of(alloc, Vec::new(alloc), branches)?;
-        Ok(CostTree {
-            names: HeldNames::Own { names },
-            nodes,
-            links,
-        })
+        let lists = lists.fronts(alloc)?;
+        CostTree::of_own(alloc, lists, costs, depth)
     }
 
     /// The tree of the lists with these costs, or `NoMemory`.

@@ -1,9 +1,7 @@
 //! The view of a profile, and of what was read of one.
 #![tactic(auto, using(hp_num::proofs::Laws::extends_same, hp_num::proofs::Laws::extends_more, hp_num::proofs::Laws::extends_trans))]
 
-ghost use Rattle.std.specs.Prelude.{◌≡◌, ◌≤◌, ◌^◌, ◌++◌, length, sum, None, IfErr, IfOk, OnErr, OnOk};
-ghost use Rattle.cost_tree.specs.Costed.{costed};
-ghost use Rattle.cost_tree.specs.TreeLines.{HasLines};
+ghost use Rattle.std.specs.Prelude.{◌≡◌, ◌++◌, None, IfErr, IfOk, OnErr, OnOk};
 ghost use Rattle.dhat_json.specs.IsSound.{IsSound};
 ghost use Rattle.hp_num.specs.Extends.{Extends};
 ghost use Rattle.dhat_view.specs.ArePartsOf.{AreParts, GainsSumsOf, GainsViewOf};
@@ -15,7 +13,7 @@ use crate::fault::ViewFault;
 use crate::options::ViewOptions;
 use crate::parts::ViewParts;
 use crate::tree::put_tree;
-use cost_tree::{CostTree, Costing, Fronts};
+use cost_tree::CostTree;
 use dhat_json::Dhat;
 use hp_num::{NoMemory, put_bytes};
 use std::alloc::Global;
@@ -92,22 +90,7 @@ fn put_parts(alloc: Global, parts: ViewParts, out: &mut Vec<u8>) -> Result<(), N
     } = parts;
     put_bytes(out, &head)?;
     drop(head);
-    let tree = fronts_tree(alloc, options.depth, &fronts, &costs)?;
+    let tree = CostTree::of_own(alloc, fronts, &costs, options.depth)?;
     drop(costs);
     put_tree(alloc, &options, total, &tree, out)
-}
-
-/// The tree of these fronts with these costs, to so many frames.
-fn fronts_tree<'a>(
-    alloc: Global,
-    depth: u32,
-    fronts: &'a Fronts,
-    costs: &[u64],
-) -> Result<CostTree<'a>, NoMemory>
-    requires as_many { length costs.now ≡ length fronts.now }
-    requires within { sum costs.now ≤ 2 ^ 62 }
-    ensures tree { IfOk result (λ tree. HasLines tree (costed fronts.now costs.now) depth) }
-{
-    let costing = Costing::new(fronts.len(), |point: u32| costs[point as usize]);
-    CostTree::of_fronts(alloc, fronts, &costing, depth)
 }

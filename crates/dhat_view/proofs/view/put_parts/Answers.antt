@@ -9,8 +9,8 @@ use Rattle.dhat_view.proofs.Viewed.{as-many, view-of-parts, viewed}
 use Rattle.dhat_view.proofs.view.put_parts.Goals as goal
 use Rattle.dhat_view.proofs.view.put_parts.Goals.{In_ok-tree}
 
-pub fronts_tree-requires-clause-as_many : goal.fronts_tree-requires-clause-as_many
-fronts_tree-requires-clause-as_many c =
+pub of_own-requires-clause-as_many : goal.of_own-requires-clause-as_many
+of_own-requires-clause-as_many c =
     ap (λ (costs : List ℕ). length costs) c.deref-2.ensures.value ∙ as-many c.args.parts c.requires.parts
 
 is-viewed : (c : In_ok-tree)
@@ -19,7 +19,7 @@ is-viewed : (c : In_ok-tree)
 is-viewed c =
     viewed c.args.parts c.in_ok-tree.tree c.args.parts.options.depth c.requires.parts
     (subst (λ (costs : List ℕ). HasLines c.in_ok-tree.tree (costed c.args.parts.fronts costs) c.args.parts.options.depth)
-    c.deref-2.ensures.value c.in_ok-tree.ensures.tree)
+    c.deref-2.ensures.value c.in_ok-tree.ensures.lines)
 
 pub put_tree-requires : goal.put_tree-requires
 put_tree-requires c = record {

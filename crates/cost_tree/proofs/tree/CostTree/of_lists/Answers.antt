@@ -1,59 +1,17 @@
-use Rattle.std.proofs.Common.{◌≡◌, ℕ, List, length, sym, ap, ◌∙◌, subst, arith}
-use Rattle.std.proofs.lemmas.List.{length-map}
-use Rattle.cost_tree.specs.declared.edge.Edge.{Edge}
+use Rattle.std.proofs.Common.{List, ℕ, length, ap, subst, ◌∙◌, sym}
+use Rattle.std.proofs.lemmas.Result.{IfOk-weaker}
 use Rattle.cost_tree.specs.Costed.{costed}
-use Rattle.cost_tree.specs.Shapes.{IsShape, list_at, lists_in}
-use Rattle.cost_tree.specs.Texts.{AreTexts, lists_of, texts_of}
-use Rattle.cost_tree.specs.TreeParts.{IsLinkedTree}
-use Rattle.cost_tree.proofs.Totals.{IsTree-same, IsTreeOf-lists}
+use Rattle.cost_tree.specs.IsTreeOf.{IsTreeOf}
 use Rattle.cost_tree.proofs.tree.CostTree.of_lists.Goals as goal
-use Rattle.cost_tree.proofs.tree.CostTree.of_lists.Goals.{In_ok-nodes}
 
-pub of-requires-clause-shape : goal.of-requires-clause-shape
-of-requires-clause-shape c =
-    let keys = c.deref.ensures.value ∙ c.into_list-edges.ensures.edges in
-    subst (λ (edges : List Edge). IsShape edges c.deref-2.result.now) (sym keys)
-    (subst (λ (ends : List ℕ). IsShape c.shape.inside.edges.keys ends) (sym c.deref-2.ensures.value) c.shape.invariant)
-
-pub of-requires-clause-as_many : goal.of-requires-clause-as_many
-of-requires-clause-as_many c =
-    let ends = ap (λ (es : List ℕ). length es) c.deref-2.ensures.value in
-    let held = length-map c.shape.inside.ends.items (list_at c.shape.inside.edges.keys) in
-    let listed = ap (λ (ls : List (List ℕ)). length ls) c.shape.view_is in
-    let kept = length-map c.names.inside.shape (texts_of c.names.inside.names) in
-    let seen = ap (λ (ls : List (List (List ℕ))). length ls) (c.names.view_is ∙ c.in_ok-names.ensures.same) in
-    omega (arith, c.requires.as_many)
-
--- the lists that the shape's numbers are those of
-listed : (c : In_ok-nodes) → lists_in c.deref.result.now c.deref-2.result.now ≡ c.names.inside.shape
-listed c =
-    ap (λ (edges : List Edge). lists_in edges c.deref-2.result.now)
-    (c.deref.ensures.value ∙ c.into_list-edges.ensures.edges)
-    ∙ ap (λ (ends : List ℕ). lists_in c.shape.inside.edges.keys ends) c.deref-2.ensures.value
-    ∙ c.shape.view_is
-
--- the tree of their texts
-made : (c : In_ok-nodes)
-    → IsLinkedTree c.names.inside.names c.in_ok-nodes.field-0
-    (costed (lists_of c.names.inside.names (lists_in c.deref.result.now c.deref-2.result.now)) c.args.costs.now)
-    c.args.depth
-made c =
-    let names = c.names.inside.names in
-    let texts = subst (λ (ls : List (List ℕ)). AreTexts names ls) (sym (listed c)) c.names.invariant in
-    let grown = c.in_ok-grown.ensures.tree names c.len-count.ensures.distinct texts in
-    c.in_ok-nodes.ensures.tree names _ c.args.depth
-    (IsTree-same names _ _ _ _ _ c.args.depth c.settled-branches.ensures.edges c.settled-branches.ensures.nodes
-    grown)
-
-pub invariant_of-result : goal.invariant_of-result
-invariant_of-result c =
-    let is = made (goal.at.invariant_of-result c).In_ok-nodes in
-    record { branches = is.nodes.branches; links = is.links }
+pub of_own-requires-clause-as_many : goal.of_own-requires-clause-as_many
+of_own-requires-clause-as_many c =
+    c.requires.as_many ∙ ap (λ (ls : List (List (List ℕ))). length ls) (sym c.in_ok-lists.ensures.same)
 
 pub returns : goal.returns
-returns c =
-    let shared = (goal.at.returns c).In_ok-nodes in
-    let all =
-    ap (λ (ls : List (List ℕ)). lists_of c.names.inside.names ls) (listed shared) ∙ c.names.view_is
-    ∙ c.in_ok-names.ensures.same in
-    record { tree = IsTreeOf-lists _ _ c.args.costs.now all (made shared).nodes.tree_of }
+returns c = record {
+  tree = IfOk-weaker c.of_own.result _ _
+      (λ tree has. subst (λ (ls : List (List (List ℕ))). IsTreeOf tree (costed ls c.args.costs.now) c.args.depth)
+      c.in_ok-lists.ensures.same has.tree_of)
+      c.of_own.ensures.lines;
+}
